@@ -1,0 +1,17 @@
+pub mod Texts
+pub mod Spellings
+pub mod Marks
+pub mod Rows
+pub mod Paths
+pub mod Rings
+pub mod Counts
+pub mod Ordering
+pub mod Fills
+pub mod Ghosts
+pub mod Numbering
+pub mod Drafting
+pub mod Keeping
+pub mod Adding
+pub mod Parts
+pub mod Groupings
+pub mod Closings

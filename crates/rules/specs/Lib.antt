@@ -1,0 +1,10 @@
+pub mod Texts
+pub mod Relations
+pub mod Labels
+pub mod Written
+pub mod Words
+pub mod Reach
+pub mod RuleSets
+pub mod Keys
+pub mod Drafts
+pub mod Tables
