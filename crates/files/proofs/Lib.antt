@@ -1,0 +1,16 @@
+pub mod Cutting
+pub mod Fielding
+pub mod Reading
+pub mod Following
+pub mod Opening
+pub mod Closing
+pub mod Texts
+pub mod Splits
+pub mod Names
+pub mod Orders
+pub mod Limits
+pub mod Rows
+pub mod Values
+pub mod Lines
+pub mod Heads
+pub mod WholeFiles

@@ -1,0 +1,54 @@
+-- From the bytes of a file to the lines after the names line.
+use mathlib.Core.Path.{_≡_, sym, ap, subst, _∙_}
+use mathlib.Core.List.{List, []}
+use Prim.Native.Nat.{ℕ, _+_, _≤_, _<_, _^_}
+use native.Mathlib.Omega.{arith}
+use lib.Dec.{ltb}
+use lib.ListN.{length}
+use denote.Ref.{now}
+use Rattle.std.proofs.shelf.Tests.{le-ltb, cond-false}
+use Rattle.terms.specs.declared.refusal.Refusal.the-variants.{Overfull}
+use Rattle.rules.specs.Written.{Written}
+use Rattle.files.specs.declared.parts.Lines.{Lines}
+use Rattle.files.specs.declared.columns.ColumnOrder.{ColumnOrder}
+use Rattle.files.specs.declared.fault.LineFault.{LineFault}
+use Rattle.files.specs.declared.fault.FileFault.{FileFault}
+use Rattle.files.specs.declared.fault.FileFault.the-variants as ofFile
+use Rattle.files.specs.Parts.{split}
+use Rattle.files.specs.RuleFiles.{Outcome, rules, fault, lineEnd, mostBytes, linesOutcome, partsOutcome, fileOutcome}
+use Rattle.files.specs.Columns.{inOrder}
+use Rattle.files.specs.Cursors.{linesLeft, Begun}
+use Rattle.files.specs.Faults.{lineTold}
+use Rattle.files.specs.Answers.{Told, HeadRead, HeadWrong, Refuses}
+use Rattle.files.proofs.Cutting.{split-few}
+
+module _ (bytes : List ℕ) (from : Lines) (short : length bytes ≤ 32768) (begun : Begun bytes from) where
+  left-is : linesLeft from ≡ split lineEnd bytes
+  left-is = cond-false (from .over) [] (split lineEnd (now (from .rest))) (begun .whole) ∙ ap (split lineEnd) (begun .all)
+
+  file-is : fileOutcome bytes ≡ partsOutcome (linesLeft from)
+  file-is =
+      cond-false (ltb mostBytes (length bytes)) (fault Overfull 0 0) (partsOutcome (split lineEnd bytes)) (le-ltb mostBytes (length bytes) short)
+      ∙ ap partsOutcome (sym left-is)
+
+  -- The lines after a right names line say what the file says.
+  file-opens : (to : Lines) (o : ColumnOrder) (ws : List Written) → HeadRead from to o → ws ≡ [] → fileOutcome bytes ≡ linesOutcome (inOrder o) (to .number) ws (linesLeft to)
+  file-opens to o ws head none =
+      let second : 2 ≡ to .number = sym (head .next-number ∙ ap (λ n. n + 1) (begun .first)) in
+      file-is ∙ (head .says ∙ (ap (λ n. linesOutcome (inOrder o) n [] (linesLeft to)) second ∙ ap (λ (w : List Written). linesOutcome (inOrder o) (to .number) w (linesLeft to)) (sym none)))
+
+  -- There are few of them.
+  pub few-lines : (to : Lines) (o : ColumnOrder) → HeadRead from to o → to .number + length (linesLeft to) < 2 ^ 63
+  few-lines to o head = omega (arith, head .next-number, head .fewer, begun .first, short, ap length left-is, split-few lineEnd bytes)
+
+  -- A wrong names line is the fault of the file.
+  pub file-headless : (what : FileFault) → HeadWrong from what → Refuses bytes what
+  file-headless what wrong = subst (Refuses bytes) (sym (wrong .is)) (file-is ∙ wrong .says)
+
+  -- They were all read: the file says these rules.
+  pub file-read : (to : Lines) (o : ColumnOrder) (ws more : List Written) → HeadRead from to o → ws ≡ [] → linesOutcome (inOrder o) (to .number) ws (linesLeft to) ≡ rules more → fileOutcome bytes ≡ rules more
+  file-read to o ws more head none e = file-opens to o ws head none ∙ e
+
+  -- One was refused: so is the file.
+  pub file-stops : (to : Lines) (o : ColumnOrder) (ws : List Written) (x : LineFault) → HeadRead from to o → ws ≡ [] → Told (linesOutcome (inOrder o) (to .number) ws (linesLeft to)) (lineTold x) → Refuses bytes (ofFile.Line x)
+  file-stops to o ws x head none h = subst (λ (y : Outcome). Told y (lineTold x)) (sym (file-opens to o ws head none)) h

@@ -1,0 +1,104 @@
+-- What reading answers, against what a file says.
+use mathlib.Core.Path.{_≡_}
+use mathlib.Core.Bool.{Bool, true, false, cond}
+use mathlib.Core.List.{List, [], _∷_, _++_}
+use Prim.Native.Nat.{ℕ, _+_, _≤_}
+use lib.Dec.{eqb}
+use lib.ListN.{length}
+use denote.Ref.{now}
+use Rattle.std.specs.declared.option.Option.{Option}
+use Rattle.std.specs.declared.option.Option.the-variants.{Some, None}
+use Rattle.std.specs.declared.result.Result.{Result}
+use Rattle.std.specs.declared.result.Result.the-variants.{Ok, Err}
+use Rattle.terms.specs.declared.refusal.Refusal.{Refusal}
+use Rattle.terms.specs.declared.refusal.Refusal.the-variants as refusal
+use Rattle.terms.specs.declared.refusal.Refusal.the-variants.{Unended, Overfull}
+use Rattle.terms.specs.declared.numbers.RuleNo.{RuleNo}
+use Rattle.rules.specs.Written.{Written, spelt, roomFor, rulesOf}
+use Rattle.rules.specs.declared.table.Table.{Table}
+use Rattle.rules.specs.Tables.{tabled}
+use Rattle.rules.specs.Words.{LowestBarred}
+use Rattle.files.specs.declared.parts.Part.{Part}
+use Rattle.files.specs.declared.parts.Lines.{Lines}
+use Rattle.files.specs.declared.cells.Cells.{Cells}
+use Rattle.files.specs.declared.columns.RuleColumn.{RuleColumn}
+use Rattle.files.specs.declared.columns.ColumnOrder.{ColumnOrder}
+use Rattle.files.specs.declared.fault.FieldFault.{FieldFault}
+use Rattle.files.specs.declared.fault.LineFault.{LineFault}
+use Rattle.files.specs.declared.fault.FileFault.{FileFault}
+use Rattle.files.specs.declared.fault.FileFault.the-variants.{Overlong, Headless, Line, Ringed, OutOfMemory}
+use Rattle.files.specs.declared.fault.Report.{Report}
+use Rattle.files.specs.declared.rule_file.RuleWords.{RuleWords}
+use Rattle.files.specs.RuleFiles.{Outcome, rules, fault, fits, misfit, firstMisfit, ruleIn, lineOutcome, linesOutcome, partsOutcome, fileOutcome, eachOnce}
+use Rattle.files.specs.Columns.{inOrder}
+use Rattle.files.specs.Cells.{bytesIn}
+use Rattle.files.specs.Cursors.{linesLeft}
+use Rattle.files.specs.Faults.{fieldTold, lineTold, fileTold, reported}
+
+-- The rule that the words say.
+abbrev pub saidBy : RuleWords → Written
+saidBy w = record { label = now (w .label); first = now (w .first); how = w .how; second = now (w .second) }
+
+-- The outcome is the fault that is told, if one is: for want of memory nothing is.
+abbrev pub Told : Outcome → Option Report → Type 0
+Told outcome None = Unit {0}
+Told outcome (Some r) = outcome ≡ fault (r .refusal) (r .line) (r .column)
+
+-- The field is wrong under the column.
+pub record MisfitAt (column : RuleColumn) (cell : Part) (what : FieldFault) : Type 0 where
+  pub wrong : fits column (now (cell .bytes)) ≡ false
+  pub told : fieldTold what ≡ reported (misfit column) (cell .line) (cell .column)
+
+-- The first wrong field of the line.
+pub record Misfits (order : ColumnOrder) (cells : Cells) (what : FieldFault) : Type 0 where
+  pub refusal : Refusal
+  pub column : ℕ
+  pub first : firstMisfit 1 (inOrder order) (bytesIn cells) ≡ Some (refusal, column)
+  pub told : fieldTold what ≡ reported refusal (cells .0 .line) column
+
+-- No field is wrong, and these are the words of the rule.
+pub record Reads (order : ColumnOrder) (cells : Cells) (words : RuleWords) : Type 0 where
+  pub right : firstMisfit 1 (inOrder order) (bytesIn cells) ≡ None
+  pub rule : saidBy words ≡ ruleIn (inOrder order) (bytesIn cells)
+  pub labels : spelt (saidBy words) ≡ true
+
+-- Reading goes on with these rules, or stops at the fault.
+abbrev pub GoesOn : {T : Type 0} → Outcome → List Written → Result T LineFault → Type 0
+GoesOn outcome ws (Ok x) = outcome ≡ rules ws
+GoesOn outcome ws (Err what) = Told outcome (lineTold what)
+
+-- One more rule, in the line n.
+abbrev pub addOutcome : ℕ → List Written → Written → Outcome
+addOutcome n ws w = cond (roomFor ws w) (rules (ws ++ (w ∷ []))) (fault Overfull n 0)
+
+-- A line that has its end, or what stands after the last line end.
+abbrev pub restOutcome : List RuleColumn → ℕ → List Written → Bool → List ℕ → Outcome
+restOutcome cs n ws true line = lineOutcome cs n ws line
+restOutcome cs n ws false line = cond (eqb (length line) 0) (rules ws) (fault Unended n 0)
+
+-- The names line was read: the order that it gives, and the lines after it.
+pub record HeadRead (from to : Lines) (order : ColumnOrder) : Type 0 where
+  pub says : partsOutcome (linesLeft from) ≡ linesOutcome (inOrder order) 2 [] (linesLeft to)
+  pub once : eachOnce (inOrder order) ≡ true
+  pub next-number : to .number ≡ from .number + 1
+  pub fewer : length (linesLeft to) ≤ length (linesLeft from)
+
+-- There is none, or it is wrong.
+pub record HeadWrong (from : Lines) (what : FileFault) : Type 0 where
+  pub says : partsOutcome (linesLeft from) ≡ fault refusal.Headless 1 0
+  pub is : what ≡ Headless
+
+-- What is answered of a file that is refused.
+abbrev pub Refuses : List ℕ → FileFault → Type 0
+Refuses bytes Overlong = Told (fileOutcome bytes) (fileTold Overlong)
+Refuses bytes Headless = Told (fileOutcome bytes) (fileTold Headless)
+Refuses bytes (Line what) = Told (fileOutcome bytes) (fileTold (Line what))
+-- the file says rules, of which the one in that line is the lowest exclusive rule in a ring; the line of rule 1 is 2
+Refuses bytes (Ringed line) = (ws : List Written) × (who : RuleNo) × (fileOutcome bytes ≡ rules ws) × LowestBarred (rulesOf ws) who × (line ≡ who .0 + 1)
+-- no claim for want of memory
+Refuses bytes OutOfMemory = Unit {0}
+
+-- A table is of the rules that the file says.
+abbrev pub Answers : List ℕ → Result Table FileFault → Type 0
+Answers bytes (Ok table) = fileOutcome bytes ≡ rules (tabled table)
+Answers bytes (Err what) = Refuses bytes what

@@ -1,0 +1,9 @@
+pub mod Parts
+pub mod RuleFiles
+pub mod RuleTexts
+pub mod Cursors
+pub mod Faults
+pub mod Fields
+pub mod Cells
+pub mod Columns
+pub mod Answers
