@@ -14,3 +14,4 @@ pub mod Values
 pub mod Lines
 pub mod Heads
 pub mod WholeFiles
+pub mod Promises

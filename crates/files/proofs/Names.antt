@@ -17,7 +17,7 @@ use Rattle.rules.specs.Relations.{relationWord, relationNamed}
 use Rattle.files.specs.declared.columns.RuleColumn.{RuleColumn}
 use Rattle.files.specs.declared.columns.RuleColumn.the-variants.{Label, First, How, Second}
 use Rattle.files.specs.RuleFiles.{columnName, columnNamed, columnsNamed}
-use Rattle.files.proofs.Texts.{same-text}
+use Rattle.rules.proofs.Texts.{same-text-is}
 
 -- ---- one name after another
 
@@ -31,7 +31,7 @@ module _ {X : Type 0} (name : X → List ℕ) (text : List ℕ) (y : X) where
     | inl e ↦
         let found : Some x ≡ Some y = sym (cond-true (sameText (name x) text) (Some x) rest e) ∙ h in
         let same : x ≡ y = cc in
-        subst (λ (z : X). name z ≡ text) same (same-text (name x) text e)
+        subst (λ (z : X). name z ≡ text) same (same-text-is (name x) text e)
     | inr e ↦ more (sym (cond-false (sameText (name x) text) (Some x) rest e) ∙ h)
   ]
 

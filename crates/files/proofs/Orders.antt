@@ -12,14 +12,14 @@ use Rattle.std.proofs.shelf.Tests.{false≢true, both-ways, not-true, and-parts
 use Rattle.files.specs.declared.columns.RuleColumn.{RuleColumn}
 use Rattle.files.specs.declared.columns.RuleColumn.the-variants.{Label, First, How, Second}
 use Rattle.files.specs.RuleFiles.{columnName, sameColumn, hasColumn, eachOnce, fits, misfit, firstMisfit, fieldUnder}
-use Rattle.files.proofs.Texts.{same-text, text-same}
+use Rattle.rules.proofs.Texts.{same-text-is, same-text}
 use Rattle.files.proofs.Names.{column-found}
 
 -- ---- the same column
 
 same-column : (c d : RuleColumn) → sameColumn c d ≡ true → c ≡ d
 same-column c d h =
-    let e : columnName c ≡ columnName d = same-text (columnName c) (columnName d) h in
+    let e : columnName c ≡ columnName d = same-text-is (columnName c) (columnName d) h in
     let a = column-found c in
     let b = column-found d in
     cc
@@ -100,7 +100,7 @@ under-others d f ds fs [] h = refl
 under-others d f ds fs (e ∷ es) h =
     let n = or-parts (sameColumn d e) (hasColumn d es) h in
     let other : sameColumn e d ≡ false = elim (cases-bool (sameColumn e d)) [
-      | inl y ↦ absurd (both-ways (sameColumn d e) (n .0) (ap (sameColumn d) (same-column e d y) ∙ text-same (columnName d)))
+      | inl y ↦ absurd (both-ways (sameColumn d e) (n .0) (ap (sameColumn d) (same-column e d y) ∙ same-text (columnName d) (columnName d) refl))
       | inr y ↦ y
     ] in
     let one = cond-false (sameColumn e d) f (fieldUnder e ds fs) other in
@@ -114,7 +114,7 @@ under-each [] (f ∷ fs) h l = absurd (omega arith)
 under-each (c ∷ cs) [] h l = absurd (omega arith)
 under-each (c ∷ cs) (f ∷ fs) h l =
     let n = and-parts (not (hasColumn c cs)) (apart cs) h in
-    let one = cond-true (sameColumn c c) f (fieldUnder c cs fs) (text-same (columnName c)) in
+    let one = cond-true (sameColumn c c) f (fieldUnder c cs fs) (same-text (columnName c) (columnName c) refl) in
     let more = under-others c f cs fs cs (not-true (hasColumn c cs) (n .0)) ∙ under-each cs fs (n .1) (omega arith) in
     cc
 

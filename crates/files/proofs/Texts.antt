@@ -1,4 +1,4 @@
--- Texts that are the same, texts that lack a byte, and labels.
+-- Texts that lack a byte, and labels.
 use mathlib.Core.Path.{_≡_, refl, subst}
 use mathlib.Core.Bool.{Bool, true, false, not, _&&_}
 use mathlib.Core.Logic.{inl, inr}
@@ -7,24 +7,7 @@ use Prim.Native.Nat.{ℕ, _≤_}
 use lib.Dec.{leb, eqb}
 use lib.ListN.{length}
 use Rattle.std.proofs.shelf.Tests.{false≢true, both-ways, and-parts, and-from, leb-true, eqb-true, eq-eqb, cases-bool, not-from-false}
-use Rattle.rules.specs.Texts.{sameText}
 use Rattle.rules.specs.Labels.{letter, labelByte, allLabelBytes, isLabel}
-
--- Texts that pass the test are equal.
-pub same-text : (xs ys : List ℕ) → sameText xs ys ≡ true → xs ≡ ys
-same-text [] [] h = refl
-same-text [] (y ∷ ys) h = absurd (false≢true h)
-same-text (x ∷ xs) [] h = absurd (false≢true h)
-same-text (x ∷ xs) (y ∷ ys) h =
-    let p = and-parts (eqb x y) (sameText xs ys) h in
-    let e : x ≡ y = eqb-true x y (p .0) in
-    let es = same-text xs ys (p .1) in
-    cc
-
--- A text passes the test with itself.
-pub text-same : (xs : List ℕ) → sameText xs xs ≡ true
-text-same [] = refl
-text-same (x ∷ xs) = and-from (eqb x x) (sameText xs xs) (eq-eqb x x refl) (text-same xs)
 
 -- The byte b is not in the text.
 abbrev pub lacks : ℕ → List ℕ → Bool

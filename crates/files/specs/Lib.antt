@@ -7,3 +7,5 @@ pub mod Fields
 pub mod Cells
 pub mod Columns
 pub mod Answers
+pub mod RuleLaws
+pub mod Verdicts

@@ -5,6 +5,8 @@ mod fault;
 mod field;
 mod parts;
 mod rule_file;
+mod telling;
+mod verdict;
 
 pub use columns::RuleColumn;
 pub use fault::FieldFault;
@@ -17,3 +19,6 @@ pub use fault::Report;
 pub use field::Field;
 pub use parts::Part;
 pub use rule_file::read_rules;
+pub use telling::check_rules;
+pub use telling::refusal_text;
+pub use verdict::Verdict;

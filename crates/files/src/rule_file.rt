@@ -11,6 +11,7 @@ ghost use Rattle.files.specs.Cells.{Whole, StandIn, bytesIn};
 ghost use Rattle.files.specs.Columns.{inOrder};
 ghost use Rattle.files.specs.Cursors.{linesLeft};
 ghost use Rattle.files.specs.RuleFiles.{eachOnce, fits, firstMisfit, linesOutcome, fileOutcome, rules};
+ghost use Rattle.files.specs.RuleLaws.{AcceptsTexts, ReadsBack};
 ghost use Rattle.files.specs.Answers.{saidBy, MisfitAt, Misfits, Reads, GoesOn, addOutcome, restOutcome, HeadRead, HeadWrong, Refuses, Answers};
 use crate::cells::Cells;
 use crate::cells::four_fields;
@@ -153,10 +154,20 @@ fn read_draft(heap: Global, bytes: &[u8]) -> Result<Draft, FileFault>
 }
 
 // The table of the rules that a file says, or the file's first fault; last of all, that an exclusive rule is in a ring.
-pub fn read_rules(heap: Global, bytes: &[u8]) -> Result<Table, FileFault>
+fn read_table(heap: Global, bytes: &[u8]) -> Result<Table, FileFault>
     ensures { λ r. ⌜ Answers (now (bytes .entry)) r ⌝ }
 {
     let draft = read_draft(heap, bytes)?;
     let table = draft.close()?;
     Ok(table)
+}
+
+// The table of the rules that a file says, or why there is none. `says` gives the answer byte for byte, `accepts` and `reads_back` say what
+// it means: a file is accepted exactly when it is the text of such rules, and the text of a table is read back as that table.
+pub fn read_rules(heap: Global, bytes: &[u8]) -> Result<Table, FileFault>
+    ensures says { λ r. ⌜ Answers (now (bytes .entry)) r ⌝ }
+    ensures accepts { λ r. ⌜ AcceptsTexts (now (bytes .entry)) r ⌝ }
+    ensures reads_back { λ r. ⌜ ReadsBack (now (bytes .entry)) r ⌝ }
+{
+    read_table(heap, bytes)
 }

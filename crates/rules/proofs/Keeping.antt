@@ -62,7 +62,7 @@ number-in-range names w = and-from _ _ (lt-ltb _ _ (label-index names w)) (and-f
 name-extends : (names after : List (List ℕ)) (k : ℕ) → Extends names after → k < length names → nameAt after k ≡ nameAt names k
 name-extends names after k p l = ap (λ ns. nameAt ns k) (p .1) ∙ getD-append-left names (p .0) [] k l
 
-range-parts : (n : ℕ) (r : Rule) → inRange n r ≡ true → (r .label .0 < n) × (r .first .0 < n) × (r .second .0 < n)
+pub range-parts : (n : ℕ) (r : Rule) → inRange n r ≡ true → (r .label .0 < n) × (r .first .0 < n) × (r .second .0 < n)
 range-parts n r h =
     let p = and-parts (ltb (r .label .0) n) _ h in
     let q = and-parts (ltb (r .first .0) n) (ltb (r .second .0) n) (p .1) in

@@ -1,10 +1,8 @@
-use Rattle.std.proofs.shelf.Results.{err-from-errBy}
-use Rattle.rules.specs.Drafts.{drafted}
-use Rattle.files.proofs.Closing.{not-closed}
+use Rattle.files.proofs.Promises.{accepts-texts, reads-back}
 use Rattle.files.proofs.rule_file.read_rules.Needs as need
 
-pub returns-in-Break-table : need.returns-in-Break-table
-returns-in-Break-table c =
-    let p = err-from-errBy (c .from-residual-in-Break-table .result) (c .from-residual-in-Break-table .ensures .1) in
-    rw (p .1, p .2) (not-closed (c .args .bytes .now) (drafted (c .in-Continue-draft .draft)) (c .in-Break-table .field-0 .0)
-    (c .in-Continue-draft .ensures tt) (c .in-Break-table .ensures tt))
+pub returns : need.returns
+returns c = record {
+    says = c .read-table .ensures;
+    accepts = accepts-texts (c .args .bytes .now) (c .read-table .result) (c .read-table .ensures);
+    reads-back = reads-back (c .args .bytes .now) (c .read-table .result) (c .read-table .ensures) }
