@@ -67,8 +67,8 @@ spelt-rules names (r ∷ rs) labels h =
     let q = and-parts (inRange (length names) r) _ h in
     let b = range-parts (length names) r (q .0) in
     let one : spelt (spellRule names r) ≡ true =
-          and-from (isLabel (nameAt names (r .label .0))) _ (labels (r .label .0) (b .0))
-            (and-from (isLabel (nameAt names (r .first .0))) (isLabel (nameAt names (r .second .0))) (labels (r .first .0) (b .1)) (labels (r .second .0) (b .2))) in
+    and-from (isLabel (nameAt names (r .label .0))) _ (labels (r .label .0) (b .0))
+    (and-from (isLabel (nameAt names (r .first .0))) (isLabel (nameAt names (r .second .0))) (labels (r .first .0) (b .1)) (labels (r .second .0) (b .2))) in
     and-from (spelt (spellRule names r)) _ one (spelt-rules names rs labels (q .1))
 
 table-limited : (t : Table) → Limited (tabled t)
@@ -82,11 +82,12 @@ table-limited t =
 
 table-text : (t : Table) (cs : List RuleColumn) (bytes : List ℕ) → eachOnce cs ≡ true → bytes ≡ ruleText cs (tabled t) → TextOf bytes (tabled t)
 table-text t cs bytes once e = record {
-    order = cs;
-    once = once;
-    text = e;
-    limited = table-limited t;
-    short = subst (λ bs. length bs ≤ mostBytes) (sym e) (texts-are-short cs (tabled t) once (table-limited t)) }
+  order = cs;
+  once = once;
+  text = e;
+  limited = table-limited t;
+  short = subst (λ bs. length bs ≤ mostBytes) (sym e) (texts-are-short cs (tabled t) once (table-limited t));
+}
 
 same-written : (t u : Table) → tabled u ≡ tabled t → SameTable t (Ok u)
 same-written t u e =
@@ -98,5 +99,6 @@ pub reads-back : (bytes : List ℕ) (r : Result Table FileFault) → Answers byt
 reads-back bytes (Ok u) h t cs once e =
     same-written t u (same-rules (tabled u) (tabled t) (sym h ∙ says-its-text bytes (tabled t) .1 (table-text t cs bytes once e)))
 reads-back bytes (Err what) h t cs once e = elim (cases-bool (isSome (fileTold what))) [
-      inl s ↦ absurd (refused-no-text bytes what h s (tabled t) (table-text t cs bytes once e) (table-free t))
-    | inr s ↦ s ]
+  | inl s ↦ absurd (refused-no-text bytes what h s (tabled t) (table-text t cs bytes once e) (table-free t))
+  | inr s ↦ s
+]

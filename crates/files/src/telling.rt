@@ -42,7 +42,12 @@ pub fn check_rules(heap: Global, bytes: &[u8]) -> Result<Verdict, AllocError>
 }
 
 // A line of names, and a line with the three numbers.
-fn counts_text(heap: Global, rules: usize, labels: usize, groups: usize) -> Result<String, AllocError>
+fn counts_text(
+    heap: Global,
+    rules: usize,
+    labels: usize,
+    groups: usize,
+) -> Result<String, AllocError>
     ensures { λ r. ⌜ made r (λ text. string-bytes text ≡ countsText rules labels groups) ⌝ }
 {
     format!(heap, "rules,labels,groups\n{rules},{labels},{groups}\n")
@@ -55,5 +60,8 @@ pub fn refusal_text(heap: Global, file: u8, report: Report) -> Result<String, Al
     let number = report.refusal.number();
     let line = report.line;
     let column = report.column;
-    format!(heap, "refused,file,line,column\n{number},{file},{line},{column}\n")
+    format!(
+        heap,
+        "refused,file,line,column\n{number},{file},{line},{column}\n"
+    )
 }

@@ -1,8 +1,9 @@
 // The limits of a rule file, and the 24 orders of its columns.
-use crate::asking::Told;
-use crate::asking::ToldDebug;
-use crate::asking::ToldPartialEq;
-use crate::asking::told;
+ghost use Prim.Native.Nat.{_<_};
+use crate::asking::Answer;
+use crate::asking::AnswerDebug;
+use crate::asking::AnswerPartialEq;
+use crate::asking::ask;
 use std::alloc::AllocError;
 use std::alloc::Global;
 use std::test::*;
@@ -31,24 +32,32 @@ fn of_labels(heap: Global, count: usize) -> Result<String, AllocError> {
 #[test]
 fn rules_and_labels(rt: LibcRuntime) -> Result<(), Fail> {
     let heap = rt.alloc();
-    check_eq(told(heap, of_rules(heap, 48)?.as_bytes())?, Told(0, 48, 1))?;
-    check_eq(told(heap, of_rules(heap, 49)?.as_bytes())?, Told(5, 50, 0))?;
-    check_eq(told(heap, of_labels(heap, 32)?.as_bytes())?, Told(0, 32, 32))?;
-    check_eq(told(heap, of_labels(heap, 33)?.as_bytes())?, Told(5, 34, 0))?;
+    check_eq(ask(heap, of_rules(heap, 48)?.as_bytes())?, Answer(0, 48, 1))?;
+    check_eq(ask(heap, of_rules(heap, 49)?.as_bytes())?, Answer(5, 50, 0))?;
+    check_eq(
+        ask(heap, of_labels(heap, 32)?.as_bytes())?,
+        Answer(0, 32, 32),
+    )?;
+    check_eq(
+        ask(heap, of_labels(heap, 33)?.as_bytes())?,
+        Answer(5, 34, 0),
+    )?;
     // a line that brings the 32nd label and the 33rd
     let mut both = of_labels(heap, 31)?;
     both.push_str("l0,x,meet,y\n")?;
-    check_eq(told(heap, both.as_bytes())?, Told(5, 33, 0))?;
+    check_eq(ask(heap, both.as_bytes())?, Answer(5, 33, 0))?;
     // a line with a 49th rule and a 33rd label, and a wrong field in the 49th
     let mut wrong = of_rules(heap, 48)?;
     wrong.push_str("a,a,near,a\n")?;
-    check_eq(told(heap, wrong.as_bytes())?, Told(4, 50, 3))
+    check_eq(ask(heap, wrong.as_bytes())?, Answer(4, 50, 3))
 }
 
 // The names line, one rule, and then a line of fillers up to a length.
-fn of_bytes(heap: Global, length: usize) -> Result<String, AllocError> {
+fn of_bytes(heap: Global, length: usize) -> Result<String, AllocError>
+    requires { ⌜ 0 < length ⌝ }
+{
     let mut text = of_rules(heap, 1)?;
-    while text.len() + 1 < length {
+    for _ in text.len()..length - 1 {
         text.push_str("x")?;
     }
     text.push_str("\n")?;
@@ -59,8 +68,14 @@ fn of_bytes(heap: Global, length: usize) -> Result<String, AllocError> {
 fn bytes(rt: LibcRuntime) -> Result<(), Fail> {
     let heap = rt.alloc();
     // a long line is ragged; a long file is overfull before anything else
-    check_eq(told(heap, of_bytes(heap, 32768)?.as_bytes())?, Told(2, 3, 0))?;
-    check_eq(told(heap, of_bytes(heap, 32769)?.as_bytes())?, Told(5, 0, 0))
+    check_eq(
+        ask(heap, of_bytes(heap, 32768)?.as_bytes())?,
+        Answer(2, 3, 0),
+    )?;
+    check_eq(
+        ask(heap, of_bytes(heap, 32769)?.as_bytes())?,
+        Answer(5, 0, 0),
+    )
 }
 
 // A column's name, and what the one rule has under it.
@@ -70,13 +85,31 @@ struct Column {
 }
 
 const COLUMNS: [Column; 4] = [
-    Column { name: "label", value: "hut" },
-    Column { name: "first", value: "lifted" },
-    Column { name: "how", value: "before" },
-    Column { name: "second", value: "boxed" },
+    Column {
+        name: "label",
+        value: "hut",
+    },
+    Column {
+        name: "first",
+        value: "lifted",
+    },
+    Column {
+        name: "how",
+        value: "before",
+    },
+    Column {
+        name: "second",
+        value: "boxed",
+    },
 ];
 
-fn in_order(heap: Global, a: &Column, b: &Column, c: &Column, d: &Column) -> Result<String, AllocError> {
+fn in_order(
+    heap: Global,
+    a: &Column,
+    b: &Column,
+    c: &Column,
+    d: &Column,
+) -> Result<String, AllocError> {
     let (p, q, r, s) = (a.name, b.name, c.name, d.name);
     let (t, u, v, w) = (a.value, b.value, c.value, d.value);
     format!(heap, "{p},{q},{r},{s}\n{t},{u},{v},{w}\n")
@@ -92,9 +125,9 @@ fn orders(rt: LibcRuntime) -> Result<(), Fail> {
             for c in &COLUMNS {
                 for d in &COLUMNS {
                     let text = in_order(heap, a, b, c, d)?;
-                    match told(heap, text.as_bytes())? {
-                        Told(0, 1, 3) => right = right.saturating_add(1),
-                        Told(1, 1, 0) => wrong = wrong.saturating_add(1),
+                    match ask(heap, text.as_bytes())? {
+                        Answer(0, 1, 3) => right = right.saturating_add(1),
+                        Answer(1, 1, 0) => wrong = wrong.saturating_add(1),
                         _ => return Err(Fail::new("another answer")),
                     }
                 }

@@ -1,8 +1,8 @@
 // Rings and groups, by files and by names.
-use crate::asking::Told;
-use crate::asking::ToldDebug;
-use crate::asking::ToldPartialEq;
-use crate::asking::told;
+use crate::asking::Answer;
+use crate::asking::AnswerDebug;
+use crate::asking::AnswerPartialEq;
+use crate::asking::ask;
 use files::read_rules;
 use rules::Draft;
 use rules::Relation;
@@ -14,19 +14,46 @@ use terms::RuleNo;
 fn exclusive_rules_in_rings(rt: LibcRuntime) -> Result<(), Fail> {
     let heap = rt.alloc();
     // a rule that reads its own label is a ring
-    check_eq(told(heap, b"label,first,how,second\na,a,after,b\n")?, Told(6, 2, 0))?;
-    check_eq(told(heap, b"label,first,how,second\na,b,contain,a\n")?, Told(6, 2, 0))?;
-    check_eq(told(heap, b"label,first,how,second\na,a,meet,b\n")?, Told(0, 1, 2))?;
-    check_eq(told(heap, b"label,first,how,second\nc,a,meet,b\na,c,meet,b\nb,d,follow,c\n")?, Told(6, 4, 0))?;
+    check_eq(
+        ask(heap, b"label,first,how,second\na,a,after,b\n")?,
+        Answer(6, 2, 0),
+    )?;
+    check_eq(
+        ask(heap, b"label,first,how,second\na,b,contain,a\n")?,
+        Answer(6, 2, 0),
+    )?;
+    check_eq(
+        ask(heap, b"label,first,how,second\na,a,meet,b\n")?,
+        Answer(0, 1, 2),
+    )?;
+    check_eq(
+        ask(
+            heap,
+            b"label,first,how,second\nc,a,meet,b\na,c,meet,b\nb,d,follow,c\n",
+        )?,
+        Answer(6, 4, 0),
+    )?;
     // the lowest of two
-    check_eq(told(heap, b"label,first,how,second\nx,y,meet,y\na,a,follow,b\nc,c,after,c\n")?, Told(6, 3, 0))?;
+    check_eq(
+        ask(
+            heap,
+            b"label,first,how,second\nx,y,meet,y\na,a,follow,b\nc,c,after,c\n",
+        )?,
+        Answer(6, 3, 0),
+    )?;
     // an exclusive rule beside a ring is none in it
-    check_eq(told(heap, b"label,first,how,second\na,a,meet,b\nq,a,contain,b\n")?, Told(0, 2, 3))
+    check_eq(
+        ask(heap, b"label,first,how,second\na,a,meet,b\nq,a,contain,b\n")?,
+        Answer(0, 2, 3),
+    )
 }
 
 #[test]
 fn groups_of_a_ring(rt: LibcRuntime) -> Result<(), Fail> {
-    let Ok(table) = read_rules(rt.alloc(), b"label,first,how,second\nc,a,meet,b\na,c,meet,b\n") else {
+    let Ok(table) = read_rules(
+        rt.alloc(),
+        b"label,first,how,second\nc,a,meet,b\na,c,meet,b\n",
+    ) else {
         return Err(Fail::new("refused"));
     };
     let groups = table.groups();
@@ -55,5 +82,9 @@ fn a_table_by_names(rt: LibcRuntime) -> Result<(), Fail> {
     check_eq(table.label_name(LabelNo(2)), Some("lifted"))?;
     check_eq(table.label_name(LabelNo(4)), None)?;
     check(table.label_no(b"boxed").is_some() && table.label_no(b"box").is_none())?;
-    check(table.rule(RuleNo(0)).is_none() && table.rule(RuleNo(2)).is_some() && table.rule(RuleNo(3)).is_none())
+    check(
+        table.rule(RuleNo(0)).is_none()
+            && table.rule(RuleNo(2)).is_some()
+            && table.rule(RuleNo(3)).is_none(),
+    )
 }
