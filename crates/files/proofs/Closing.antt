@@ -13,4 +13,4 @@ use Rattle.files.specs.Answers.{Refuses}
 
 pub not-closed : (bytes : List ℕ) (ws : List Written) (x : CloseFault) → fileOutcome bytes ≡ rules ws → Closes ws (Err x) → Refuses bytes (unclosed x)
 not-closed bytes ws (Ringed who) says barred = (ws, who, says, barred, refl)
-not-closed bytes ws OutOfMemory says barred = tt
+not-closed bytes ws OutOfMemory says free = (ws, says, free)

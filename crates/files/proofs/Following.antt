@@ -1,16 +1,24 @@
 -- One line after the other, to the end of the file.
 use mathlib.Core.Path.{_≡_, refl, sym, ap, subst, _∙_}
 use mathlib.Core.Bool.{Bool, true, false, cond}
-use mathlib.Core.List.{List, [], _∷_}
+use mathlib.Core.List.{List, [], _∷_, _++_, append-assoc}
 use Prim.Native.Nat.{ℕ, _+_}
+use native.Mathlib.Nat.{add-zero}
+use native.Mathlib.Omega.{arith}
+use denote.Ref.{now}
 use lib.Dec.{eqb}
-use lib.ListN.{length}
+use lib.ListN.{length, length-append}
+use Rattle.std.proofs.shelf.Tests.{cond-true, cond-false}
 use Rattle.std.specs.declared.option.Option.{Option}
 use Rattle.std.specs.declared.option.Option.the-variants.{Some, None}
 use Rattle.std.specs.declared.result.Result.{Result}
+use Rattle.std.specs.declared.result.Result.the-variants.{Err}
 use Rattle.terms.specs.declared.refusal.Refusal.{Refusal}
-use Rattle.terms.specs.declared.refusal.Refusal.the-variants.{Unended}
-use Rattle.rules.specs.Written.{Written}
+use Rattle.terms.specs.declared.refusal.Refusal.the-variants.{Unended, Misspelt, Overfull}
+use Rattle.rules.specs.declared.draft.AddFault.{AddFault}
+use Rattle.rules.specs.declared.draft.AddFault.the-variants as add
+use Rattle.rules.specs.Drafts.{addRefusal, Added}
+use Rattle.rules.specs.Written.{Written, spelt, roomFor}
 use Rattle.files.specs.declared.cells.Cells.{Cells}
 use Rattle.files.specs.declared.columns.RuleColumn.{RuleColumn}
 use Rattle.files.specs.declared.columns.ColumnOrder.{ColumnOrder}
@@ -18,11 +26,14 @@ use Rattle.files.specs.declared.fault.LineFault.{LineFault}
 use Rattle.files.specs.declared.fault.Report.{Report}
 use Rattle.files.specs.declared.rule_file.RuleWords.{RuleWords}
 use Rattle.files.specs.Parts.{split}
-use Rattle.files.specs.RuleFiles.{Outcome, rules, fault, comma, firstMisfit, fieldsOutcome, linesOutcome, ruleIn}
+use Rattle.files.specs.RuleFiles.{Outcome, rules, fault, comma, firstMisfit, fieldsOutcome, lineOutcome, linesOutcome, ruleIn}
 use Rattle.files.specs.Columns.{inOrder}
 use Rattle.files.specs.Cells.{bytesIn}
-use Rattle.files.specs.Cursors.{anyLeft}
-use Rattle.files.specs.Answers.{Reads, Told, GoesOn, saidBy, addOutcome, restOutcome}
+use Rattle.files.specs.declared.parts.Line.{Line}
+use Rattle.files.specs.declared.parts.Lines.{Lines}
+use Rattle.files.specs.Cursors.{anyLeft, linesLeft, LineTaken}
+use Rattle.files.specs.Faults.{lineTold, unadded}
+use Rattle.files.specs.Answers.{Reads, Told, ToldOf, Fronted, GoesOn, saidBy, addOutcome, restOutcome}
 
 pub goes-on-by : {T : Type 0} (o o′ : Outcome) (ws : List Written) (r : Result T LineFault) → o ≡ o′ → GoesOn o′ ws r → GoesOn o ws r
 goes-on-by o o′ ws r e h = subst (λ (x : Outcome). GoesOn x ws r) (sym e) h
@@ -52,8 +63,117 @@ module _ (cs : List RuleColumn) (n : ℕ) (ws : List Written) (line : List ℕ) 
       ∙ ap (λ (o : Outcome). after o (λ m. linesOutcome cs (n + 1) m left)) (ap (λ (t : Bool). restOutcome cs n ws t line) (sym is) ∙ e)
 
   -- It was refused: so is the file.
-  pub line-told : (t : Option Report) → Told (restOutcome cs n ws ended line) t → Told (linesOutcome cs n ws (line ∷ left)) t
-  line-told None h = tt
-  line-told (Some r) h =
+  pub line-refused : {r : Refusal} {i k : ℕ} → restOutcome cs n ws ended line ≡ fault r i k → linesOutcome cs n ws (line ∷ left) ≡ fault r i k
+  line-refused h =
       next-line cs n ws line left
       ∙ ap (λ (o : Outcome). after o (λ m. linesOutcome cs (n + 1) m left)) (ap (λ (t : Bool). restOutcome cs n ws t line) (sym is) ∙ h)
+
+-- ---- no memory for a rule
+
+-- What is not refused has room.
+room-for : (ws : List Written) (w : Written) → addRefusal ws w ≡ None → roomFor ws w ≡ true
+room-for ws w h = go (spelt w) (roomFor ws w) h
+  where
+    go : (s r : Bool) → cond s (cond r None (Some Overfull)) (Some Misspelt) ≡ None → r ≡ true
+    go true true e = refl
+    go true false e = absurd (grind arith)
+    go false true e = refl
+    go false false e = absurd (grind arith)
+
+-- A refusal of a rule whose names are labels is for want of room.
+no-room : (ws : List Written) (w : Written) (why : Refusal) → spelt w ≡ true → addRefusal ws w ≡ Some why → roomFor ws w ≡ false
+no-room ws w why s h = go (roomFor ws w) (sym (cond-true (spelt w) _ _ s) ∙ h)
+  where
+    go : (r : Bool) → cond r None (Some Overfull) ≡ Some why → r ≡ false
+    go true e = absurd (grind arith)
+    go false e = refl
+
+pub add-told : (n : ℕ) (ws after : List Written) (w : Written) (f : AddFault) → spelt w ≡ true → Added ws w after (Err f) → Told (addOutcome n ws w) (lineTold (unadded f n))
+add-told n ws after w (add.Refused why) s h = cond-false (roomFor ws w) _ _ (no-room ws w why s (h .0))
+add-told n ws after w add.OutOfMemory s h = (ws ++ (w ∷ []), cond-true (roomFor ws w) _ _ (room-for ws w (h .0)))
+
+-- One more line after lines that say rules.
+lines-push : (cs : List RuleColumn) (n : ℕ) (ws vs us : List Written) (front : List (List ℕ)) (line : List ℕ) → linesOutcome cs n ws (front ++ ([] ∷ [])) ≡ rules vs → lineOutcome cs (n + length front) vs line ≡ rules us
+    → linesOutcome cs n ws ((front ++ (line ∷ [])) ++ ([] ∷ [])) ≡ rules us
+lines-push cs n ws vs us [] line h e =
+    let same : ws ≡ vs = cc in
+    let first : lineOutcome cs n ws line ≡ rules us = rw same (subst (λ m. lineOutcome cs m vs line ≡ rules us) (add-zero n) e) in
+    ap (λ (o : Outcome). after o (λ m. linesOutcome cs (n + 1) m ([] ∷ []))) first
+lines-push cs n ws vs us (l ∷ front) line h e = go (lineOutcome cs n ws l) refl (λ more into far. lines-push cs (n + 1) more vs us front line into far)
+  where
+    any-push : (front : List (List ℕ)) → anyLeft (front ++ ([] ∷ [])) ≡ true
+    any-push [] = refl
+    any-push (x ∷ xs) = refl
+
+    step : (front : List (List ℕ)) → linesOutcome cs n ws (l ∷ (front ++ ([] ∷ []))) ≡ after (lineOutcome cs n ws l) (λ more. linesOutcome cs (n + 1) more (front ++ ([] ∷ [])))
+    step front = next-line cs n ws l (front ++ ([] ∷ [])) ∙ ap (λ (t : Bool). after (restOutcome cs n ws t l) (λ more. linesOutcome cs (n + 1) more (front ++ ([] ∷ [])))) (any-push front)
+
+    go : (o : Outcome) → lineOutcome cs n ws l ≡ o
+        → ((more : List Written) → linesOutcome cs (n + 1) more (front ++ ([] ∷ [])) ≡ rules vs → lineOutcome cs ((n + 1) + length front) vs line ≡ rules us → linesOutcome cs (n + 1) more ((front ++ (line ∷ [])) ++ ([] ∷ [])) ≡ rules us)
+        → linesOutcome cs n ws (((l ∷ front) ++ (line ∷ [])) ++ ([] ∷ [])) ≡ rules us
+    go (rules more) q rest =
+        let into : linesOutcome cs (n + 1) more (front ++ ([] ∷ [])) ≡ rules vs = sym (ap (λ (o : Outcome). after o (λ m. linesOutcome cs (n + 1) m (front ++ ([] ∷ [])))) q) ∙ (sym (step front) ∙ h) in
+        let far : lineOutcome cs ((n + 1) + length front) vs line ≡ rules us = subst (λ m. lineOutcome cs m vs line ≡ rules us) (omega arith) e in
+        step (front ++ (line ∷ [])) ∙ (ap (λ (o : Outcome). after o (λ m. linesOutcome cs (n + 1) m ((front ++ (line ∷ [])) ++ ([] ∷ [])))) q ∙ rest more into far)
+    go (fault r i k) q rest =
+        let stuck : fault r i k ≡ rules vs = sym (ap (λ (o : Outcome). after o (λ m. linesOutcome cs (n + 1) m (front ++ ([] ∷ [])))) q) ∙ (sym (step front) ∙ h) in
+        let z : _≡_ {A = ℕ} 0 1 = cc in absurd (omega arith)
+
+-- The lines that were taken say these rules, and the others are left.
+pub record Fore (cs : List RuleColumn) (n : ℕ) (ws : List Written) (parts : List (List ℕ)) (m : ℕ) (vs : List Written) (left : List (List ℕ)) : Type 0 where
+  pub front : List (List ℕ)
+  pub cut : parts ≡ front ++ left
+  pub says-rules : linesOutcome cs n ws (front ++ ([] ∷ [])) ≡ rules vs
+  pub far : m ≡ n + length front
+
+pub fore-none : (cs : List RuleColumn) (n : ℕ) (ws : List Written) (parts : List (List ℕ)) → Fore cs n ws parts n ws parts
+fore-none cs n ws parts = record { front = []; cut = refl; says-rules = refl; far = sym (add-zero n) }
+
+module _ (cs : List RuleColumn) (n : ℕ) (ws : List Written) (parts : List (List ℕ)) (m : ℕ) (vs : List Written) (line : List ℕ) (left : List (List ℕ)) (f : Fore cs n ws parts m vs (line ∷ left)) where
+  fore-cut : parts ≡ (f .front ++ (line ∷ [])) ++ left
+  fore-cut = f .cut ∙ sym (append-assoc (f .front) (line ∷ []) left)
+
+  pub fore-more : (us : List Written) → lineOutcome cs m vs line ≡ rules us → Fore cs n ws parts (m + 1) us left
+  fore-more us e = record {
+    front = f .front ++ (line ∷ []);
+    cut = fore-cut;
+    says-rules = lines-push cs n ws vs us (f .front) line (f .says-rules) (subst (λ k. lineOutcome cs k vs line ≡ rules us) (f .far) e);
+    far = let l = length-append (f .front) (line ∷ []) in let d = f .far in omega arith;
+  }
+
+  -- There was no memory at the line: the lines before it and, if it has its end, the line itself say rules.
+  pub fore-short : (ended : Bool) → Told (restOutcome cs m vs ended line) None → Fronted (linesOutcome cs n ws) parts
+  fore-short true t = let g = fore-more (t .0) (t .1) in record { front = g .front; back = left; cut = g .cut; more = t .0; says-rules = g .says-rules }
+  fore-short false t = record { front = f .front; back = line ∷ left; cut = f .cut; more = vs; says-rules = f .says-rules }
+
+  -- So for each way in which the line was not read.
+  pub line-told : (t : Option Report) (ended : Bool) → ended ≡ anyLeft left → linesOutcome cs n ws parts ≡ linesOutcome cs m vs (line ∷ left) → Told (restOutcome cs m vs ended line) t → ToldOf (linesOutcome cs n ws) parts t
+  line-told None ended is same h = fore-short ended h
+  line-told (Some r) ended is same h = same ∙ line-refused cs m vs line left ended is h
+
+-- ---- a loop's step
+
+module _ (cs : List RuleColumn) (n : ℕ) (ws : List Written) (parts : List (List ℕ)) (from to : Lines) (line : Line) (taken : LineTaken from to line) (vs : List Written)
+    (same : linesOutcome cs n ws parts ≡ linesOutcome cs (from .number) vs (linesLeft from))
+    (fore : anyLeft (linesLeft from) ≡ true → Fore cs n ws parts (from .number) vs (linesLeft from)) where
+  same-here : linesOutcome cs n ws parts ≡ linesOutcome cs (line .number) vs (now (line .rest) ∷ linesLeft to)
+  same-here = same ∙ (ap (linesOutcome cs (from .number) vs) (taken .lines) ∙ ap (λ m. linesOutcome cs m vs (now (line .rest) ∷ linesLeft to)) (sym (taken .number)))
+
+  fore-here : Fore cs n ws parts (line .number) vs (now (line .rest) ∷ linesLeft to)
+  fore-here = subst (λ m. Fore cs n ws parts m vs (now (line .rest) ∷ linesLeft to)) (sym (taken .number))
+      (subst (λ ls. Fore cs n ws parts (from .number) vs ls) (taken .lines) (fore (ap anyLeft (taken .lines))))
+
+  next-is : line .number + 1 ≡ to .number
+  next-is = ap (λ m. m + 1) (taken .number) ∙ sym (taken .next-number)
+
+  pub step-same : (us : List Written) → restOutcome cs (line .number) vs (line .ended) (now (line .rest)) ≡ rules us → linesOutcome cs n ws parts ≡ linesOutcome cs (to .number) us (linesLeft to)
+  step-same us e =
+      same-here ∙ (line-done cs (line .number) vs (now (line .rest)) (linesLeft to) (line .ended) (taken .ended) e ∙ ap (λ m. linesOutcome cs m us (linesLeft to)) next-is)
+
+  pub step-fore : (us : List Written) → restOutcome cs (line .number) vs (line .ended) (now (line .rest)) ≡ rules us → anyLeft (linesLeft to) ≡ true → Fore cs n ws parts (to .number) us (linesLeft to)
+  step-fore us e any = subst (λ m. Fore cs n ws parts m us (linesLeft to)) next-is
+      (fore-more cs n ws parts (line .number) vs (now (line .rest)) (linesLeft to) fore-here us
+      (sym (ap (λ (t : Bool). restOutcome cs (line .number) vs t (now (line .rest))) (taken .ended ∙ any)) ∙ e))
+
+  pub step-told : (t : Option Report) → Told (restOutcome cs (line .number) vs (line .ended) (now (line .rest))) t → ToldOf (linesOutcome cs n ws) parts t
+  step-told t h = line-told cs n ws parts (line .number) vs (now (line .rest)) (linesLeft to) fore-here t (line .ended) (taken .ended) same-here h

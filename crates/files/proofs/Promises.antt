@@ -5,6 +5,7 @@ use mathlib.Core.Logic.{inl, inr}
 use mathlib.Core.List.{List, [], _∷_, map}
 use Prim.Native.Nat.{ℕ, _-_, _<_, _≤_}
 use native.Mathlib.Omega.{arith}
+use lib.Dec.{ltb}
 use lib.ListN.{length}
 use Rattle.std.specs.Options.{isSome}
 use Rattle.std.specs.declared.option.Option.{Option}
@@ -12,7 +13,7 @@ use Rattle.std.specs.declared.option.Option.the-variants.{Some, None}
 use Rattle.std.specs.declared.result.Result.{Result}
 use Rattle.std.specs.declared.result.Result.the-variants.{Ok, Err}
 use Rattle.std.proofs.shelf.Lists.{length-map}
-use Rattle.std.proofs.shelf.Tests.{and-parts, and-from, false≢true, cases-bool, both-ways}
+use Rattle.std.proofs.shelf.Tests.{and-parts, and-from, false≢true, le-ltb, cond-false, cases-bool}
 use Rattle.rules.specs.declared.rule.Rule.{Rule}
 use Rattle.rules.specs.declared.table.Table.{Table}
 use Rattle.rules.specs.Labels.{isLabel}
@@ -25,9 +26,10 @@ use Rattle.files.specs.declared.columns.RuleColumn.{RuleColumn}
 use Rattle.files.specs.declared.fault.FileFault.{FileFault}
 use Rattle.files.specs.declared.fault.FileFault.the-variants.{Overlong, Headless, Line, Ringed, OutOfMemory}
 use Rattle.files.specs.declared.fault.Report.{Report}
-use Rattle.files.specs.Answers.{Answers, Refuses, Told}
+use Rattle.files.specs.Answers.{Answers, Refuses, Told, ToldOf}
 use Rattle.files.specs.Faults.{fileTold, lineTold}
-use Rattle.files.specs.RuleFiles.{Outcome, rules, fault, eachOnce, fileOutcome, mostBytes}
+use Rattle.files.specs.RuleFiles.{Outcome, rules, fault, eachOnce, partsOutcome, fileOutcome, lineEnd, mostBytes}
+use Rattle.files.specs.Parts.{split}
 use Rattle.files.specs.RuleTexts.{TextOf, Limited, allSpelt, ruleText}
 use Rattle.files.specs.RuleLaws.{Free, AcceptsTexts, SameTable, ReadsBack}
 use Rattle.files.proofs.Lines.{fault-rules}
@@ -46,10 +48,15 @@ told-no-text : (bytes : List ℕ) (o : Option Report) → Told (fileOutcome byte
 told-no-text bytes None h s ws t = false≢true s
 told-no-text bytes (Some r) h s ws t = fault-rules (r .refusal) (r .line) (r .column) ws (sym h ∙ says-its-text bytes ws .1 t)
 
+-- What the lines of a short file say is what the file says.
+file-told : (bytes : List ℕ) (o : Option Report) → length bytes ≤ mostBytes → isSome o ≡ true → ToldOf partsOutcome (split lineEnd bytes) o → Told (fileOutcome bytes) o
+file-told bytes None short s h = absurd (false≢true s)
+file-told bytes (Some r) short s h = cond-false (ltb mostBytes (length bytes)) _ _ (le-ltb mostBytes (length bytes) short) ∙ h
+
 refused-no-text : (bytes : List ℕ) (what : FileFault) → Refuses bytes what → isSome (fileTold what) ≡ true → (ws : List Written) → TextOf bytes ws → Free ws → ⊥
 refused-no-text bytes Overlong h s ws t free = told-no-text bytes (fileTold Overlong) h s ws t
 refused-no-text bytes Headless h s ws t free = told-no-text bytes (fileTold Headless) h s ws t
-refused-no-text bytes (Line f) h s ws t free = told-no-text bytes (lineTold f) h s ws t
+refused-no-text bytes (Line f) h s ws t free = told-no-text bytes (lineTold f) (file-told bytes (lineTold f) (h .0) s (h .1)) s ws t
 refused-no-text bytes (Ringed line) h s ws t free =
     let e : h .0 ≡ ws = same-rules (h .0) ws (sym (h .2) ∙ says-its-text bytes ws .1 t) in
     free (h .1 .0 - 1) (subst (λ (vs : List Written). Barred (rulesOf vs) (h .1 .0 - 1)) e (h .3 .barred))

@@ -17,7 +17,7 @@ use Rattle.terms.specs.declared.numbers.RuleNo.{RuleNo}
 use Rattle.rules.specs.Written.{Written, spelt, roomFor, rulesOf}
 use Rattle.rules.specs.declared.table.Table.{Table}
 use Rattle.rules.specs.Tables.{tabled}
-use Rattle.rules.specs.Words.{LowestBarred}
+use Rattle.rules.specs.Words.{Barred, LowestBarred}
 use Rattle.files.specs.declared.parts.Part.{Part}
 use Rattle.files.specs.declared.parts.Lines.{Lines}
 use Rattle.files.specs.declared.cells.Cells.{Cells}
@@ -29,19 +29,20 @@ use Rattle.files.specs.declared.fault.FileFault.{FileFault}
 use Rattle.files.specs.declared.fault.FileFault.the-variants.{Overlong, Headless, Line, Ringed, OutOfMemory}
 use Rattle.files.specs.declared.fault.Report.{Report}
 use Rattle.files.specs.declared.rule_file.RuleWords.{RuleWords}
-use Rattle.files.specs.RuleFiles.{Outcome, rules, fault, fits, misfit, firstMisfit, ruleIn, lineOutcome, linesOutcome, partsOutcome, fileOutcome, eachOnce}
+use Rattle.files.specs.RuleFiles.{Outcome, rules, fault, fits, misfit, firstMisfit, ruleIn, lineOutcome, linesOutcome, partsOutcome, fileOutcome, columnOrder, eachOnce, lineEnd, mostBytes}
+use Rattle.files.specs.Parts.{split}
 use Rattle.files.specs.Columns.{inOrder}
 use Rattle.files.specs.Cells.{bytesIn}
-use Rattle.files.specs.Cursors.{linesLeft}
+use Rattle.files.specs.Cursors.{linesLeft, anyLeft}
 use Rattle.files.specs.Faults.{fieldTold, lineTold, fileTold, reported}
 
 -- The rule that the words say.
 abbrev pub saidBy : RuleWords → Written
 saidBy w = record { label = now (w .label); first = now (w .first); how = w .how; second = now (w .second) }
 
--- The outcome is the fault that is told, if one is: for want of memory nothing is.
+-- The outcome is the fault that is told. Where none is told, there was no memory for a rule that nothing refuses.
 abbrev pub Told : Outcome → Option Report → Type 0
-Told outcome None = Unit {0}
+Told outcome None = (ws : List Written) × (outcome ≡ rules ws)
 Told outcome (Some r) = outcome ≡ fault (r .refusal) (r .line) (r .column)
 
 -- The field is wrong under the column.
@@ -67,6 +68,24 @@ abbrev pub GoesOn : {T : Type 0} → Outcome → List Written → Result T LineF
 GoesOn outcome ws (Ok x) = outcome ≡ rules ws
 GoesOn outcome ws (Err what) = Told outcome (lineTold what)
 
+-- The first lines, up to one, say rules.
+pub record Fronted (says : List (List ℕ) → Outcome) (parts : List (List ℕ)) : Type 0 where
+  pub front : List (List ℕ)
+  pub back : List (List ℕ)
+  pub cut : parts ≡ front ++ back
+  pub more : List Written
+  pub says-rules : says (front ++ ([] ∷ [])) ≡ rules more
+
+-- What the lines say is the fault that is told. Where none is told, there was no memory after lines that say rules.
+abbrev pub ToldOf : (List (List ℕ) → Outcome) → List (List ℕ) → Option Report → Type 0
+ToldOf says parts None = Fronted says parts
+ToldOf says parts (Some r) = says parts ≡ fault (r .refusal) (r .line) (r .column)
+
+-- The lines were read to the end, or up to the fault.
+abbrev pub GoesThrough : {T : Type 0} → (List (List ℕ) → Outcome) → List (List ℕ) → List Written → Result T LineFault → Type 0
+GoesThrough says parts ws (Ok x) = says parts ≡ rules ws
+GoesThrough says parts ws (Err what) = ToldOf says parts (lineTold what)
+
 -- One more rule, in the line n.
 abbrev pub addOutcome : ℕ → List Written → Written → Outcome
 addOutcome n ws w = cond (roomFor ws w) (rules (ws ++ (w ∷ []))) (fault Overfull n 0)
@@ -78,7 +97,10 @@ restOutcome cs n ws false line = cond (eqb (length line) 0) (rules ws) (fault Un
 
 -- The names line was read: the order that it gives, and the lines after it.
 pub record HeadRead (from to : Lines) (order : ColumnOrder) : Type 0 where
-  pub says : partsOutcome (linesLeft from) ≡ linesOutcome (inOrder order) 2 [] (linesLeft to)
+  pub names : List ℕ
+  pub lines : linesLeft from ≡ names ∷ linesLeft to
+  pub any : anyLeft (linesLeft to) ≡ true
+  pub gives : columnOrder names ≡ Some (inOrder order)
   pub once : eachOnce (inOrder order) ≡ true
   pub next-number : to .number ≡ from .number + 1
   pub fewer : length (linesLeft to) ≤ length (linesLeft from)
@@ -92,11 +114,11 @@ pub record HeadWrong (from : Lines) (what : FileFault) : Type 0 where
 abbrev pub Refuses : List ℕ → FileFault → Type 0
 Refuses bytes Overlong = Told (fileOutcome bytes) (fileTold Overlong)
 Refuses bytes Headless = Told (fileOutcome bytes) (fileTold Headless)
-Refuses bytes (Line what) = Told (fileOutcome bytes) (fileTold (Line what))
+Refuses bytes (Line what) = (length bytes ≤ mostBytes) × ToldOf partsOutcome (split lineEnd bytes) (lineTold what)
 -- the file says rules, of which the one in that line is the lowest exclusive rule in a ring; the line of rule 1 is 2
 Refuses bytes (Ringed line) = (ws : List Written) × (who : RuleNo) × (fileOutcome bytes ≡ rules ws) × LowestBarred (rulesOf ws) who × (line ≡ who .0 + 1)
--- no claim for want of memory
-Refuses bytes OutOfMemory = Unit {0}
+-- no memory for the table of the rules that the file says, of which no exclusive one is in a ring
+Refuses bytes OutOfMemory = (ws : List Written) × (fileOutcome bytes ≡ rules ws) × ((i : ℕ) → Barred (rulesOf ws) i → ⊥)
 
 -- A table is of the rules that the file says.
 abbrev pub Answers : List ℕ → Result Table FileFault → Type 0

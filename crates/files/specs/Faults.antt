@@ -4,6 +4,8 @@ use Rattle.std.specs.declared.option.Option.{Option}
 use Rattle.std.specs.declared.option.Option.the-variants.{Some, None}
 use Rattle.terms.specs.declared.refusal.Refusal.{Refusal}
 use Rattle.terms.specs.declared.refusal.Refusal.the-variants as refusal
+use Rattle.rules.specs.declared.draft.AddFault.{AddFault}
+use Rattle.rules.specs.declared.draft.AddFault.the-variants as add
 use Rattle.rules.specs.declared.table.CloseFault.{CloseFault}
 use Rattle.rules.specs.declared.table.CloseFault.the-variants as close
 use Rattle.files.specs.declared.fault.Report.{Report}
@@ -44,3 +46,8 @@ fileTold ofFile.OutOfMemory = None
 abbrev pub unclosed : CloseFault → FileFault
 unclosed (close.Ringed who) = Ringed (who .0 + 1)
 unclosed close.OutOfMemory = ofFile.OutOfMemory
+
+-- The fault of a line whose rule was not added, where its labels are labels.
+abbrev pub unadded : AddFault → ℕ → LineFault
+unadded (add.Refused why) line = Overfull line
+unadded add.OutOfMemory line = ofLine.OutOfMemory

@@ -26,7 +26,7 @@ fn due_field<'a>(line: &mut Line<'a>) -> Result<Part<'a>, LineFault>
 }
 
 // The fields of a line that has just four.
-pub fn four_fields<'a>(mut line: Line<'a>) -> Result<Cells<'a>, LineFault>
+pub(crate) fn four_fields<'a>(mut line: Line<'a>) -> Result<Cells<'a>, LineFault>
     requires { ⌜ Whole line ⌝ }
     ensures { λ r. ⌜ ByOk r (FourTaken (line .entry)) (NotFour (line .entry)) ⌝ }
 {

@@ -59,7 +59,7 @@ impl RuleColumn {
 }
 
 // What a part of the file is to say under a column.
-pub fn field_under(column: RuleColumn, part: Part<'_>) -> Field<'_>
+pub(crate) fn field_under(column: RuleColumn, part: Part<'_>) -> Field<'_>
     ensures { λ r. ⌜ r ≡ fieldFor column (part .entry) ⌝ }
 {
     match column {
@@ -95,7 +95,7 @@ impl ColumnOrder {
     }
 
     // The order that a names line gives; none if the line is wrong.
-    pub fn read(line: Line<'_>) -> Option<ColumnOrder>
+    pub(crate) fn read(line: Line<'_>) -> Option<ColumnOrder>
         requires { ⌜ Whole line ⌝ }
         ensures { λ r. ⌜ Ordered (columnOrder (now (line .entry .rest))) r ⌝ }
     {
@@ -111,7 +111,7 @@ impl ColumnOrder {
     }
 
     // The cell under the column, which is one of the four.
-    pub fn cell<'a>(self, cells: Cells<'a>, column: RuleColumn) -> Part<'a>
+    pub(crate) fn cell<'a>(self, cells: Cells<'a>, column: RuleColumn) -> Part<'a>
         ensures { λ r. ⌜ r ≡ cellUnder column self (cells .entry) ⌝ }
     {
         if column.is(self.0) {

@@ -59,7 +59,7 @@ fn find(bytes: &[u8], byte: u8) -> usize
 
 impl<'a> Line<'a> {
     // The next field, or none once the last has been taken.
-    pub fn next_field(&mut self) -> Option<Part<'a>>
+    pub(crate) fn next_field(&mut self) -> Option<Part<'a>>
         requires { ⌜ now self .column + 1 < 2 ^ 64 ⌝ }
         ensures { λ r. ⌜ BySome r (fieldsLeft (now (self .entry)) ≡ []) (FieldTaken (now (self .entry)) (now (self .exit))) ⌝ }
     {
@@ -89,7 +89,7 @@ impl<'a> Line<'a> {
 
 impl<'a> Lines<'a> {
     // The lines of a file, none taken.
-    pub fn new(bytes: &'a [u8]) -> Lines<'a>
+    pub(crate) fn new(bytes: &'a [u8]) -> Lines<'a>
         ensures { λ r. ⌜ Begun (now (bytes .entry)) r ⌝ }
     {
         Lines {
@@ -100,7 +100,7 @@ impl<'a> Lines<'a> {
     }
 
     // The next line, or none once what stands after the last line end has been taken.
-    pub fn next_line(&mut self) -> Option<Line<'a>>
+    pub(crate) fn next_line(&mut self) -> Option<Line<'a>>
         requires { ⌜ now self .number + 1 < 2 ^ 64 ⌝ }
         ensures { λ r. ⌜ BySome r (linesLeft (now (self .entry)) ≡ []) (LineTaken (now (self .entry)) (now (self .exit))) ⌝ }
     {

@@ -11,8 +11,9 @@ ghost use Rattle.files.specs.Cells.{Whole, StandIn, bytesIn};
 ghost use Rattle.files.specs.Columns.{inOrder};
 ghost use Rattle.files.specs.Cursors.{linesLeft};
 ghost use Rattle.files.specs.RuleFiles.{eachOnce, fits, firstMisfit, linesOutcome, fileOutcome, rules};
+ghost use Rattle.files.specs.Faults.{unadded};
 ghost use Rattle.files.specs.RuleLaws.{AcceptsTexts, ReadsBack};
-ghost use Rattle.files.specs.Answers.{saidBy, MisfitAt, Misfits, Reads, GoesOn, addOutcome, restOutcome, HeadRead, HeadWrong, Refuses, Answers};
+ghost use Rattle.files.specs.Answers.{saidBy, MisfitAt, Misfits, Reads, GoesOn, GoesThrough, addOutcome, restOutcome, HeadRead, HeadWrong, Refuses, Answers};
 use crate::cells::Cells;
 use crate::cells::four_fields;
 use crate::columns::ColumnOrder;
@@ -89,8 +90,17 @@ fn add_rule(draft: &mut Draft, words: RuleWords<'_>, line: usize) -> Result<(), 
 {
     match draft.add(words.label, words.first, words.how, words.second) {
         Ok(_) => Ok(()),
-        Err(AddFault::Refused(_)) => Err(LineFault::Overfull { line }),
-        Err(AddFault::OutOfMemory) => Err(LineFault::OutOfMemory),
+        Err(why) => Err(unadded_in(why, line)),
+    }
+}
+
+// The fault of a line whose rule was not added, where its labels are labels.
+fn unadded_in(why: AddFault, line: usize) -> LineFault
+    ensures { λ r. ⌜ r ≡ unadded why line ⌝ }
+{
+    match why {
+        AddFault::Refused(_) => LineFault::Overfull { line },
+        AddFault::OutOfMemory => LineFault::OutOfMemory,
     }
 }
 
@@ -114,7 +124,7 @@ fn read_line(line: Line<'_>, order: ColumnOrder, draft: &mut Draft) -> Result<()
 // Reads the lines of values into the draft, up to the first that is wrong.
 fn read_lines(mut lines: Lines<'_>, order: ColumnOrder, draft: &mut Draft) -> Result<(), LineFault>
     requires { ⌜ eachOnce (inOrder order) ≡ true ⌝ ∗ ⌜ lines .number + length (linesLeft lines) < 2 ^ 63 ⌝ }
-    ensures { λ r. ⌜ GoesOn (linesOutcome (inOrder order) (lines .entry .number) (drafted (now (draft .entry))) (linesLeft (lines .entry))) (drafted (now (draft .exit))) r ⌝ }
+    ensures { λ r. ⌜ GoesThrough (linesOutcome (inOrder order) (lines .entry .number) (drafted (now (draft .entry)))) (linesLeft (lines .entry)) (drafted (now (draft .exit))) r ⌝ }
 {
     while let Some(line) = lines.next_line() {
         read_line(line, order, draft)?;

@@ -9,8 +9,10 @@ use lib.Dec.{leb, ltb}
 use lib.ListN.{length, getD, length-append}
 use Rattle.std.specs.declared.option.Option.the-variants.{Some, None}
 use Rattle.std.proofs.shelf.Lists.{map-append, append-nil, length-map, getD-append-left, getD-push}
-use Rattle.std.proofs.shelf.Tests.{and-parts, and-from, and-left, and-right, ltb-true, lt-ltb, le-ltb, le-leb, lt-leb, cond-true, cond-false, cases-bool, cases-lt}
-use Rattle.terms.specs.declared.refusal.Refusal.the-variants.{Overfull}
+use Rattle.std.proofs.shelf.Tests.{and-parts, and-from, and-left, and-right, ltb-true, lt-ltb, le-ltb, le-leb, lt-leb, leb-true, cond-true, cond-false, cases-bool, cases-lt}
+use Rattle.std.specs.declared.option.Option.{Option}
+use Rattle.terms.specs.declared.refusal.Refusal.{Refusal}
+use Rattle.terms.specs.declared.refusal.Refusal.the-variants.{Misspelt, Overfull}
 use Rattle.rules.specs.declared.rule.Rule.{Rule}
 use Rattle.rules.specs.Labels.{isLabel}
 use Rattle.rules.specs.Drafts.{Extends, addRefusal}
@@ -142,6 +144,25 @@ pub refuses-rules : (names : List (List ℕ)) (rules : List Rule) (w : Written) 
 refuses-rules names rules w s m =
     let n = length-map rules (spellRule names) in
     cond-true (spelt w) _ _ s ∙ cond-false (roomFor (spellRules names rules) w) _ _ (and-left _ _ (le-ltb (length (spellRules names rules)) 48 (omega arith)))
+
+-- What is not refused is within the limits.
+pub accepted-parts : (names : List (List ℕ)) (rules : List Rule) (w : Written) → Kept names rules → addRefusal (spellRules names rules) w ≡ None → (spelt w ≡ true) × (length rules < 48) × (length (enterRule names w) ≤ 32)
+accepted-parts names rules w k h = elim (cases-bool (spelt w)) [
+  | inl s ↦ elim (cases-bool (roomFor (spellRules names rules) w)) [
+    | inl r ↦
+        let p = and-parts (ltb (length (spellRules names rules)) 48) _ r in
+        let a = ltb-true (length (spellRules names rules)) 48 (p .0) in
+        let b = leb-true (length (namesOf (spellRules names rules ++ (w ∷ [])))) 32 (p .1) in
+        let n = length-map rules (spellRule names) in
+        let e = ap length (names-with names rules w k) in
+        (s, omega arith, omega arith)
+    | inr r ↦ absurd (refused-none Overfull (sym (cond-true (spelt w) _ _ s ∙ cond-false (roomFor (spellRules names rules) w) _ _ r) ∙ h))
+  ]
+  | inr s ↦ absurd (refused-none Misspelt (sym (cond-false (spelt w) _ _ s) ∙ h))
+]
+  where
+    refused-none : (why : Refusal) → _≡_ {A = Option Refusal} (Some why) None → ⊥
+    refused-none why e = let z : _≡_ {A = ℕ} 0 1 = cc in omega arith
 
 -- ---- names that are all different
 

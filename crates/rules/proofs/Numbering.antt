@@ -1,9 +1,10 @@
 -- The numbers that names get, and rules by number and by name.
 use mathlib.Core.Path.{_≡_, refl, sym, ap, subst, _∙_}
-use mathlib.Core.Bool.{Bool, true, false, cond, _&&_}
+use mathlib.Core.Bool.{Bool, true, false, cond, _&&_, _||_}
 use mathlib.Core.Logic.{_⊎_, inl, inr}
 use mathlib.Core.List.{List, [], _∷_, _++_, map, append-assoc}
 use Prim.Native.Nat.{ℕ, zero, suc, _+_, _<_, _≤_}
+use native.Mathlib.Nat.{add-zero}
 use native.Mathlib.Omega.{arith}
 use lib.Dec.{eqb, leb, ltb}
 use lib.ListN.{length, getD, length-append}
@@ -102,3 +103,67 @@ index-extends names after t p l = ap (λ ns. indexOf ns t) (p .1) ∙ index-appe
 
 pub texts-extends : (xs ys : List (String Global)) → Extends xs ys → Extends (texts xs) (texts ys)
 texts-extends xs ys p = (texts (p .0), ap texts (p .1) ∙ map-append string-bytes xs (p .0))
+
+-- ---- how many names there are then
+
+pub enter-length : (names : List (List ℕ)) (t : List ℕ) → length (enter names t) ≡ length names + cond (known names t) 0 1
+enter-length names t = elim (cases-bool (known names t)) [
+  | inl e ↦ rw e (sym (add-zero (length names)))
+  | inr e ↦ rw e (length-append names (t ∷ []))
+]
+
+-- a text that is no name, after one more
+index-beyond : (names : List (List ℕ)) (a b : List ℕ) → indexOf names b ≡ length names → indexOf (names ++ (a ∷ [])) b ≡ length names + cond (sameText a b) 0 1
+index-beyond [] a b e = elim (cases-bool (sameText a b)) [ inl s ↦ rw s refl | inr s ↦ rw s refl ]
+index-beyond (n ∷ names) a b e = elim (cases-bool (sameText n b)) [
+  | inl f ↦ absurd (omega (arith, rw f at e))
+  | inr f ↦ let i = index-beyond names a b (omega (arith, rw f at e)) in rw f (omega arith)
+]
+
+known-new : (names : List (List ℕ)) (a b : List ℕ) (s t : Bool) → sameText a b ≡ s → known names b ≡ t → known (names ++ (a ∷ [])) b ≡ (s || t)
+known-new names a b s true e f =
+    let l = known-index names b f in
+    let i = index-append names (a ∷ []) b l in
+    let n = length-append names (a ∷ []) in
+    lt-ltb (indexOf (names ++ (a ∷ [])) b) (length (names ++ (a ∷ []))) (omega arith) ∙ sym (or-true s)
+  where
+    or-true : (x : Bool) → (x || true) ≡ true
+    or-true true = refl
+    or-true false = refl
+known-new names a b true false e f =
+    let i = index-beyond names a b (unknown-index names b f) ∙ ap (λ (x : Bool). length names + cond x 0 1) e in
+    let n = length-append names (a ∷ []) in
+    lt-ltb (indexOf (names ++ (a ∷ [])) b) (length (names ++ (a ∷ []))) (omega arith)
+known-new names a b false false e f =
+    let i = index-beyond names a b (unknown-index names b f) ∙ ap (λ (x : Bool). length names + cond x 0 1) e in
+    let n = length-append names (a ∷ []) in
+    le-ltb (indexOf (names ++ (a ∷ [])) b) (length (names ++ (a ∷ []))) (omega arith)
+
+-- a text is a name then if it was, or is the one that was entered
+pub known-enter : (names : List (List ℕ)) (a b : List ℕ) → known (enter names a) b ≡ (sameText a b || known names b)
+known-enter names a b = elim (cases-bool (known names a)) [
+  | inl e ↦ rw e (elim (cases-bool (sameText a b)) [
+    | inl s ↦ rw s (ap (known names) (sym (same-text-is a b s)) ∙ e)
+    | inr s ↦ rw s refl
+  ])
+  | inr e ↦ rw e (known-new names a b (sameText a b) (known names b) refl refl)
+]
+
+or-or : (a b c : Bool) → (a || (b || c)) ≡ ((a || b) || c)
+or-or true b c = refl
+or-or false b c = refl
+
+-- what three names bring
+pub brings-three : (names : List (List ℕ)) (a b c : List ℕ) →
+    length (enter (enter (enter names a) b) c) ≡ length names + ((cond (false || known names a) 0 1 + cond (sameText a b || known names b) 0 1) + cond ((sameText b c || sameText a c) || known names c) 0 1)
+brings-three names a b c =
+    let x = enter-length names a in
+    let y = enter-length (enter names a) b ∙ ap (λ (t : Bool). length (enter names a) + cond t 0 1) (known-enter names a b) in
+    let k : known (enter (enter names a) b) c ≡ ((sameText b c || sameText a c) || known names c) =
+    known-enter (enter names a) b c ∙ (ap (λ (t : Bool). sameText b c || t) (known-enter names a c) ∙ or-or (sameText b c) (sameText a c) (known names c)) in
+    let z = enter-length (enter (enter names a) b) c ∙ ap (λ (t : Bool). length (enter (enter names a) b) + cond t 0 1) k in
+    omega arith
+
+pub one-at-most : (t : Bool) → cond {A = ℕ} t 0 1 ≤ 1
+one-at-most true = omega arith
+one-at-most false = omega arith

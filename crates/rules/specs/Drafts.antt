@@ -6,6 +6,7 @@ use Prim.Native.Nat.{ℕ, _+_, _<_, _≤_}
 use lib.ListN.{length}
 use Rattle.std.specs.Of.Vec.{vec-items}
 use Rattle.std.specs.declared.string.String.{String}
+use Rattle.std.specs.declared.alloc.AllocError.{AllocError}
 use Rattle.std.specs.declared.alloc.Global.{Global}
 use Rattle.std.specs.declared.option.Option.{Option}
 use Rattle.std.specs.declared.option.Option.the-variants.{Some, None}
@@ -30,25 +31,23 @@ drafted d = spellRules (texts (vec-items (d .names))) (vec-items (d .rules))
 abbrev pub addRefusal : List Written → Written → Option Refusal
 addRefusal ws w = cond (spelt w) (cond (roomFor ws w) None (Some Overfull)) (Some Misspelt)
 
--- The rule is added exactly if nothing refuses it and there is memory; else the draft is as before.
+-- The rule is added exactly if nothing refuses it and there is memory; else the draft is as before. Want of memory hides no refusal.
 abbrev pub Added : List Written → Written → List Written → Result RuleNo AddFault → Type 0
 Added ws w after (Ok number) = (addRefusal ws w ≡ None) × (after ≡ ws ++ (w ∷ [])) × (number .0 ≡ length ws + 1)
 Added ws w after (Err (Refused why)) = (addRefusal ws w ≡ Some why) × (after ≡ ws)
-Added ws w after (Err OutOfMemory) = after ≡ ws
+Added ws w after (Err OutOfMemory) = (addRefusal ws w ≡ None) × (after ≡ ws)
 
 -- The list begins with the other.
 abbrev pub Extends : {A : Type 0} → List A → List A → Type 0
 Extends {A} xs ys = (more : List A) × (ys ≡ xs ++ more)
 
 -- One name more, unless it is there: its number, with the names then.
-abbrev pub Entered : List (String Global) → List ℕ → List (String Global) → Result LabelNo AddFault → Type 0
-Entered names text after (Ok number) = (texts after ≡ enter (texts names) text) × (number .0 ≡ indexOf (texts after) text) × (length (texts after) ≤ 32) × Extends names after
-Entered names text after (Err (Refused why)) = (32 < length (enter (texts names) text)) × (why ≡ Overfull) × (after ≡ names)
-Entered names text after (Err OutOfMemory) = after ≡ names
+abbrev pub Entered : List (String Global) → List ℕ → List (String Global) → Result LabelNo AllocError → Type 0
+Entered names text after (Ok number) = (texts after ≡ enter (texts names) text) × (number .0 ≡ indexOf (texts after) text) × (length (texts after) ≤ length (texts names) + 1) × Extends names after
+Entered names text after (Err e) = after ≡ names
 
 -- One rule more, with its names. Where it is not added, names may be left after the old ones.
-abbrev pub Wrote : List (String Global) → List Rule → Written → List (String Global) → List Rule → Result RuleNo AddFault → Type 0
+abbrev pub Wrote : List (String Global) → List Rule → Written → List (String Global) → List Rule → Result RuleNo AllocError → Type 0
 Wrote names rules w after more (Ok number) =
-    (texts after ≡ enterRule (texts names) w) × (more ≡ rules ++ (numberRule (texts after) w ∷ [])) × (number .0 ≡ length rules + 1) × (length (texts after) ≤ 32) × Extends names after
-Wrote names rules w after more (Err (Refused why)) = (32 < length (enterRule (texts names) w)) × (why ≡ Overfull) × (more ≡ rules) × Extends names after
-Wrote names rules w after more (Err OutOfMemory) = (more ≡ rules) × Extends names after
+    (texts after ≡ enterRule (texts names) w) × (more ≡ rules ++ (numberRule (texts after) w ∷ [])) × (number .0 ≡ length rules + 1) × Extends names after
+Wrote names rules w after more (Err e) = (more ≡ rules) × Extends names after

@@ -50,8 +50,8 @@ pub record Closed (t : Table) : Type 0 where
   pub working : WorkingOrder (rulesIn t) (orderIn t)
   pub grouping : Grouping (rulesIn t) (orderIn t) (groupsIn t)
 
--- Rules make a table exactly if no exclusive rule is in a ring and there is memory.
+-- Rules make a table exactly if no exclusive rule is in a ring and there is memory. Want of memory hides no ring.
 abbrev pub Closes : List Written → Result Table CloseFault → Type 0
 Closes ws (Ok t) = (tabled t ≡ ws) × ((i : ℕ) → Barred (rulesOf ws) i → ⊥)
 Closes ws (Err (Ringed lowest)) = LowestBarred (rulesOf ws) lowest
-Closes ws (Err OutOfMemory) = Unit {0}
+Closes ws (Err OutOfMemory) = (i : ℕ) → Barred (rulesOf ws) i → ⊥

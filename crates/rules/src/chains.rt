@@ -63,7 +63,7 @@ fn through(rows: [RuleSet; 48], k: usize) -> [RuleSet; 48]
 }
 
 // For each rule the rules that it leads to: some chain of rules begins with it, and its last label is read by them.
-pub fn reach(rules: &[Rule]) -> [RuleSet; 48]
+pub(crate) fn reach(rules: &[Rule]) -> [RuleSet; 48]
     requires { ⌜ length (now rules) ≤ 48 ⌝ }
     ensures says { λ r. ⌜ ((i j : ℕ) → Decides (marked r i j) (Leads (now (rules .entry)) i j)) ⌝ }
     ensures found { λ r. ⌜ ((i j : ℕ) → marked r i j ≡ leadsTo (now (rules .entry)) i j) ⌝ }

@@ -50,7 +50,7 @@ fn group_end(rows: &[RuleSet; 48], order: &[RuleNo; 48], n: usize, p: usize) -> 
 }
 
 // The groups of an order of `n` rules.
-pub fn part_groups(
+pub(crate) fn part_groups(
     heap: Global,
     rows: &[RuleSet; 48],
     order: &[RuleNo; 48],

@@ -7,7 +7,7 @@ ghost use Rattle.rules.specs.Written.{indexOf};
 use crate::text::same_text;
 
 // The index of the first name that is the text, if one is.
-pub fn find_name(names: &[String], text: &[u8]) -> Option<usize>
+pub(crate) fn find_name(names: &[String], text: &[u8]) -> Option<usize>
     ensures { λ r. ⌜ BySome r (indexOf (texts (now (names .entry))) (now (text .entry)) ≡ length (texts (now (names .entry)))) (λ i. (i < length (texts (now (names .entry)))) × (indexOf (texts (now (names .entry))) (now (text .entry)) ≡ i)) ⌝ }
 {
     for i in 0..names.len() {

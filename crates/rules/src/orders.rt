@@ -13,7 +13,7 @@ use crate::rule_set::RuleSet;
 use terms::RuleNo;
 
 // The lowest exclusive rule that is in a ring.
-pub fn ringed_exclusive(rules: &[Rule], rows: &[RuleSet; 48]) -> Option<RuleNo>
+pub(crate) fn ringed_exclusive(rules: &[Rule], rows: &[RuleSet; 48]) -> Option<RuleNo>
     requires { ⌜ length (now rules) ≤ 48 ⌝ }
     requires { ⌜ ((i j : ℕ) → Decides (marked (now rows) i j) (Leads (now rules) i j)) ⌝ }
     ensures { λ r. ⌜ BySome r ((i : ℕ) → Barred (now (rules .entry)) i → ⊥) (λ no. LowestBarred (now (rules .entry)) no) ⌝ }
@@ -90,7 +90,7 @@ fn place(rows: &[RuleSet; 48], n: usize, i: usize) -> usize
 }
 
 // The rules in a working order, in the first places.
-pub fn working_order(rules: &[Rule], rows: &[RuleSet; 48]) -> [RuleNo; 48]
+pub(crate) fn working_order(rules: &[Rule], rows: &[RuleSet; 48]) -> [RuleNo; 48]
     requires { ⌜ length (now rules) ≤ 48 ⌝ }
     requires { ⌜ ((i j : ℕ) → Decides (marked (now rows) i j) (Leads (now rules) i j)) ⌝ }
     ensures works { λ r. ⌜ WorkingOrder (now (rules .entry)) (take (length (now (rules .entry))) r) ⌝ }

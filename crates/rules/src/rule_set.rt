@@ -6,30 +6,30 @@ ghost use Rattle.rules.specs.RuleSets.{holds};
 
 // A set of rules of one table, by their places.
 #[derive(Clone, Copy)]
-pub struct RuleSet(u64);
+pub(crate) struct RuleSet(u64);
 
 impl RuleSet {
-    pub fn none() -> RuleSet
+    pub(crate) fn none() -> RuleSet
         ensures { λ r. ⌜ ((j : ℕ) → holds r j ≡ false) ⌝ }
     {
         RuleSet(0)
     }
 
-    pub fn has(self, i: usize) -> bool
+    pub(crate) fn has(self, i: usize) -> bool
         requires { ⌜ i < 64 ⌝ }
         ensures { λ r. ⌜ r ≡ holds self i ⌝ }
     {
         (self.0 >> i) & 1 == 1
     }
 
-    pub fn with(self, i: usize) -> RuleSet
+    pub(crate) fn with(self, i: usize) -> RuleSet
         requires { ⌜ i < 64 ⌝ }
         ensures { λ r. ⌜ ((j : ℕ) → holds r j ≡ (holds self j || eqb i j)) ⌝ }
     {
         RuleSet(self.0 | (1 << i))
     }
 
-    pub fn join(self, other: RuleSet) -> RuleSet
+    pub(crate) fn join(self, other: RuleSet) -> RuleSet
         ensures { λ r. ⌜ ((j : ℕ) → holds r j ≡ (holds self j || holds other j)) ⌝ }
     {
         RuleSet(self.0 | other.0)

@@ -4,6 +4,7 @@ use Prim.Native.Nat.{ℕ}
 use native.Mathlib.Omega.{arith}
 use lib.ListN.{length}
 use Rattle.std.specs.Of.Vec.{vec-items}
+use Rattle.std.proofs.shelf.Results.{err-from-errBy}
 use Rattle.rules.specs.declared.rule.Rule.{Rule}
 use Rattle.rules.specs.Words.{Barred, LowestBarred}
 use Rattle.rules.specs.Keys.{InPlace, PartsTo}
@@ -64,3 +65,10 @@ returns c =
     let e : c .deref-2 .result .now ≡ rulesOf (drafted (c .args .self)) =
     c .deref-2 .ensures .value ∙ sym (kept-rules (texts (vec-items (c .args .self .names))) (vec-items (c .args .self .rules)) (draft-kept (c .args .self))) in
     (refl, subst (λ (rs : List Rule). (i : ℕ) → Barred rs i → ⊥) e (c .in-rest .ensures tt))
+
+pub returns-in-Break-groups : need.returns-in-Break-groups
+returns-in-Break-groups c =
+    let e : c .deref-2 .result .now ≡ rulesOf (drafted (c .args .self)) =
+    c .deref-2 .ensures .value ∙ sym (kept-rules (texts (vec-items (c .args .self .names))) (vec-items (c .args .self .rules)) (draft-kept (c .args .self))) in
+    let p = err-from-errBy (c .from-residual .result) (c .from-residual .ensures .1) in
+    rw (p .1, p .2) (subst (λ (rs : List Rule). (i : ℕ) → Barred rs i → ⊥) e (c .in-rest .ensures tt))
