@@ -35,8 +35,8 @@ use Rattle.files.specs.Cursors.{anyLeft, linesLeft, LineTaken}
 use Rattle.files.specs.Faults.{lineTold, unadded}
 use Rattle.files.specs.Answers.{Reads, Told, ToldOf, Fronted, GoesOn, saidBy, addOutcome, restOutcome}
 
-pub goes-on-by : {T : Type 0} (o o′ : Outcome) (ws : List Written) (r : Result T LineFault) → o ≡ o′ → GoesOn o′ ws r → GoesOn o ws r
-goes-on-by o o′ ws r e h = subst (λ (x : Outcome). GoesOn x ws r) (sym e) h
+pub goes-on-by : {T : Type 0} (ws : List Written) (o o′ : Outcome) (more : List Written) (r : Result T LineFault) → o ≡ o′ → GoesOn ws o′ more r → GoesOn ws o more r
+goes-on-by ws o o′ more r e h = subst (λ (x : Outcome). GoesOn ws x more r) (sym e) h
 
 fields-add : (cs : List RuleColumn) (n : ℕ) (ws : List Written) (fs : List (List ℕ)) → firstMisfit 1 cs fs ≡ None → fieldsOutcome cs n ws fs ≡ addOutcome n ws (ruleIn cs fs)
 fields-add cs n ws fs e = ap (λ (m : Option (Refusal × ℕ)). elim m [ Some x ↦ fault (x .0) n (x .1) | None ↦ addOutcome n ws (ruleIn cs fs) ]) e
@@ -88,9 +88,13 @@ no-room ws w why s h = go (roomFor ws w) (sym (cond-true (spelt w) _ _ s) ∙ h)
     go true e = absurd (grind arith)
     go false e = refl
 
-pub add-told : (n : ℕ) (ws after : List Written) (w : Written) (f : AddFault) → spelt w ≡ true → Added ws w after (Err f) → Told (addOutcome n ws w) (lineTold (unadded f n))
+pub add-told : (n : ℕ) (ws after : List Written) (w : Written) (f : AddFault) → spelt w ≡ true → Added ws w after (Err f) → Told ws (addOutcome n ws w) (lineTold (unadded f n))
 add-told n ws after w (add.Refused why) s h = cond-false (roomFor ws w) _ _ (no-room ws w why s (h .0))
-add-told n ws after w add.OutOfMemory s h = (ws ++ (w ∷ []), cond-true (roomFor ws w) _ _ (room-for ws w (h .0)))
+add-told n ws after w add.OutOfMemory s h = (w, cond-true (roomFor ws w) _ _ (room-for ws w (h .0)))
+
+pub any-push : (front : List (List ℕ)) → anyLeft (front ++ ([] ∷ [])) ≡ true
+any-push [] = refl
+any-push (x ∷ xs) = refl
 
 -- One more line after lines that say rules.
 lines-push : (cs : List RuleColumn) (n : ℕ) (ws vs us : List Written) (front : List (List ℕ)) (line : List ℕ) → linesOutcome cs n ws (front ++ ([] ∷ [])) ≡ rules vs → lineOutcome cs (n + length front) vs line ≡ rules us
@@ -101,9 +105,6 @@ lines-push cs n ws vs us [] line h e =
     ap (λ (o : Outcome). after o (λ m. linesOutcome cs (n + 1) m ([] ∷ []))) first
 lines-push cs n ws vs us (l ∷ front) line h e = go (lineOutcome cs n ws l) refl (λ more into far. lines-push cs (n + 1) more vs us front line into far)
   where
-    any-push : (front : List (List ℕ)) → anyLeft (front ++ ([] ∷ [])) ≡ true
-    any-push [] = refl
-    any-push (x ∷ xs) = refl
 
     step : (front : List (List ℕ)) → linesOutcome cs n ws (l ∷ (front ++ ([] ∷ []))) ≡ after (lineOutcome cs n ws l) (λ more. linesOutcome cs (n + 1) more (front ++ ([] ∷ [])))
     step front = next-line cs n ws l (front ++ ([] ∷ [])) ∙ ap (λ (t : Bool). after (restOutcome cs n ws t l) (λ more. linesOutcome cs (n + 1) more (front ++ ([] ∷ [])))) (any-push front)
@@ -126,9 +127,6 @@ pub record Fore (cs : List RuleColumn) (n : ℕ) (ws : List Written) (parts : Li
   pub says-rules : linesOutcome cs n ws (front ++ ([] ∷ [])) ≡ rules vs
   pub far : m ≡ n + length front
 
-pub fore-none : (cs : List RuleColumn) (n : ℕ) (ws : List Written) (parts : List (List ℕ)) → Fore cs n ws parts n ws parts
-fore-none cs n ws parts = record { front = []; cut = refl; says-rules = refl; far = sym (add-zero n) }
-
 module _ (cs : List RuleColumn) (n : ℕ) (ws : List Written) (parts : List (List ℕ)) (m : ℕ) (vs : List Written) (line : List ℕ) (left : List (List ℕ)) (f : Fore cs n ws parts m vs (line ∷ left)) where
   fore-cut : parts ≡ (f .front ++ (line ∷ [])) ++ left
   fore-cut = f .cut ∙ sym (append-assoc (f .front) (line ∷ []) left)
@@ -141,13 +139,19 @@ module _ (cs : List RuleColumn) (n : ℕ) (ws : List Written) (parts : List (Lis
     far = let l = length-append (f .front) (line ∷ []) in let d = f .far in omega arith;
   }
 
-  -- There was no memory at the line: the lines before it and, if it has its end, the line itself say rules.
-  pub fore-short : (ended : Bool) → Told (restOutcome cs m vs ended line) None → Fronted (linesOutcome cs n ws) parts
-  fore-short true t = let g = fore-more (t .0) (t .1) in record { front = g .front; back = left; cut = g .cut; more = t .0; says-rules = g .says-rules }
-  fore-short false t = record { front = f .front; back = line ∷ left; cut = f .cut; more = vs; says-rules = f .says-rules }
+  -- There was no memory for its rule: the lines up to it say rules. What stands after the last line end has no rule.
+  fore-short : (ended : Bool) → Told vs (restOutcome cs m vs ended line) None → Fronted (linesOutcome cs n ws) parts
+  fore-short true t =
+      let g = fore-more (vs ++ (t .0 ∷ [])) (t .1) in
+      record { front = g .front; back = left; cut = g .cut; before = vs; last = t .0; says-rules = g .says-rules }
+  fore-short false t = absurd (none-more (eqb (length line) 0) (t .1))
+    where
+      none-more : (e : Bool) → cond e (rules vs) (fault Unended m 0) ≡ rules (vs ++ (t .0 ∷ [])) → ⊥
+      none-more true q = let same : vs ≡ vs ++ (t .0 ∷ []) = cc in let l = ap length same ∙ length-append vs (t .0 ∷ []) in omega arith
+      none-more false q = let z : _≡_ {A = ℕ} 0 1 = cc in omega arith
 
   -- So for each way in which the line was not read.
-  pub line-told : (t : Option Report) (ended : Bool) → ended ≡ anyLeft left → linesOutcome cs n ws parts ≡ linesOutcome cs m vs (line ∷ left) → Told (restOutcome cs m vs ended line) t → ToldOf (linesOutcome cs n ws) parts t
+  pub line-told : (t : Option Report) (ended : Bool) → ended ≡ anyLeft left → linesOutcome cs n ws parts ≡ linesOutcome cs m vs (line ∷ left) → Told vs (restOutcome cs m vs ended line) t → ToldOf (linesOutcome cs n ws) parts t
   line-told None ended is same h = fore-short ended h
   line-told (Some r) ended is same h = same ∙ line-refused cs m vs line left ended is h
 
@@ -175,5 +179,5 @@ module _ (cs : List RuleColumn) (n : ℕ) (ws : List Written) (parts : List (Lis
       (fore-more cs n ws parts (line .number) vs (now (line .rest)) (linesLeft to) fore-here us
       (sym (ap (λ (t : Bool). restOutcome cs (line .number) vs t (now (line .rest))) (taken .ended ∙ any)) ∙ e))
 
-  pub step-told : (t : Option Report) → Told (restOutcome cs (line .number) vs (line .ended) (now (line .rest))) t → ToldOf (linesOutcome cs n ws) parts t
+  pub step-told : (t : Option Report) → Told vs (restOutcome cs (line .number) vs (line .ended) (now (line .rest))) t → ToldOf (linesOutcome cs n ws) parts t
   step-told t h = line-told cs n ws parts (line .number) vs (now (line .rest)) (linesLeft to) fore-here t (line .ended) (taken .ended) same-here h

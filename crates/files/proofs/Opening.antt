@@ -26,6 +26,7 @@ use Rattle.files.specs.Cursors.{linesLeft, anyLeft, Begun}
 use Rattle.files.specs.Faults.{lineTold}
 use Rattle.files.specs.Answers.{ToldOf, HeadRead, HeadWrong, Refuses}
 use Rattle.files.proofs.Cutting.{split-few}
+use Rattle.files.proofs.Following.{any-push}
 
 module _ (bytes : List ℕ) (from : Lines) (short : length bytes ≤ 32768) (begun : Begun bytes from) where
   left-is : linesLeft from ≡ split lineEnd bytes
@@ -52,17 +53,9 @@ module _ (bytes : List ℕ) (from : Lines) (short : length bytes ≤ 32768) (beg
   pub few-lines : (to : Lines) (o : ColumnOrder) → HeadRead from to o → to .number + length (linesLeft to) < 2 ^ 63
   few-lines to o head = omega (arith, head .next-number, head .fewer, begun .first, short, ap length left-is, split-few lineEnd bytes)
 
-  -- A wrong names line is the fault of the file.
-  pub file-headless : (what : FileFault) → HeadWrong from what → Refuses bytes what
-  file-headless what wrong = subst (Refuses bytes) (sym (wrong .is)) (file-is ∙ wrong .says)
-
   -- They were all read: the file says these rules.
   pub file-read : (to : Lines) (o : ColumnOrder) (ws more : List Written) → HeadRead from to o → ws ≡ [] → linesOutcome (inOrder o) (to .number) ws (linesLeft to) ≡ rules more → fileOutcome bytes ≡ rules more
   file-read to o ws more head none e = file-opens to o ws head none ∙ e
-
-  any-push : (front : List (List ℕ)) → anyLeft (front ++ ([] ∷ [])) ≡ true
-  any-push [] = refl
-  any-push (x ∷ xs) = refl
 
   -- One was refused, or there was no memory for its rule: so with the file.
   lines-told : (to : Lines) (o : ColumnOrder) (ws : List Written) (t : Option Report) → HeadRead from to o → ws ≡ [] → ToldOf (linesOutcome (inOrder o) (to .number) ws) (linesLeft to) t → ToldOf partsOutcome (split lineEnd bytes) t
@@ -70,7 +63,8 @@ module _ (bytes : List ℕ) (from : Lines) (short : length bytes ≤ 32768) (beg
     front = head .names ∷ h .front;
     back = h .back;
     cut = sym left-is ∙ (head .lines ∙ ap (λ ls. head .names ∷ ls) (h .cut));
-    more = h .more;
+    before = h .before;
+    last = h .last;
     says-rules = parts-open to o head (h .front ++ ([] ∷ [])) (any-push (h .front)) ∙ (ap (λ (w : List Written). linesOutcome (inOrder o) (to .number) w (h .front ++ ([] ∷ []))) (sym none) ∙ h .says-rules);
   }
   lines-told to o ws (Some r) head none h = ap partsOutcome (sym left-is) ∙ (sym file-is ∙ (file-opens to o ws head none ∙ h))

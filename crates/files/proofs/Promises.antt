@@ -14,6 +14,8 @@ use Rattle.std.specs.declared.result.Result.{Result}
 use Rattle.std.specs.declared.result.Result.the-variants.{Ok, Err}
 use Rattle.std.proofs.shelf.Lists.{length-map}
 use Rattle.std.proofs.shelf.Tests.{and-parts, and-from, false≢true, le-ltb, cond-false, cases-bool}
+use Rattle.terms.specs.declared.refusal.Refusal.{Refusal}
+use Rattle.terms.specs.declared.refusal.Refusal.the-variants as refusal
 use Rattle.rules.specs.declared.rule.Rule.{Rule}
 use Rattle.rules.specs.declared.table.Table.{Table}
 use Rattle.rules.specs.Labels.{isLabel}
@@ -26,7 +28,7 @@ use Rattle.files.specs.declared.columns.RuleColumn.{RuleColumn}
 use Rattle.files.specs.declared.fault.FileFault.{FileFault}
 use Rattle.files.specs.declared.fault.FileFault.the-variants.{Overlong, Headless, Line, Ringed, OutOfMemory}
 use Rattle.files.specs.declared.fault.Report.{Report}
-use Rattle.files.specs.Answers.{Answers, Refuses, Told, ToldOf}
+use Rattle.files.specs.Answers.{Answers, Refuses, ToldOf}
 use Rattle.files.specs.Faults.{fileTold, lineTold}
 use Rattle.files.specs.RuleFiles.{Outcome, rules, fault, eachOnce, partsOutcome, fileOutcome, lineEnd, mostBytes}
 use Rattle.files.specs.Parts.{split}
@@ -43,20 +45,19 @@ same-rules ws vs e = cc
 table-free : (t : Table) → Free (tabled t)
 table-free t = subst (λ (rs : List Rule). (i : ℕ) → Barred rs i → ⊥) (table-closed t .rules) (table-closed t .free)
 
--- A fault that is told is no text.
-told-no-text : (bytes : List ℕ) (o : Option Report) → Told (fileOutcome bytes) o → isSome o ≡ true → (ws : List Written) → TextOf bytes ws → ⊥
-told-no-text bytes None h s ws t = false≢true s
-told-no-text bytes (Some r) h s ws t = fault-rules (r .refusal) (r .line) (r .column) ws (sym h ∙ says-its-text bytes ws .1 t)
+-- A file that says a fault is no text.
+fault-no-text : (bytes : List ℕ) (r : Refusal) (i k : ℕ) → fileOutcome bytes ≡ fault r i k → (ws : List Written) → TextOf bytes ws → ⊥
+fault-no-text bytes r i k h ws t = fault-rules r i k ws (sym h ∙ says-its-text bytes ws .1 t)
 
--- What the lines of a short file say is what the file says.
-file-told : (bytes : List ℕ) (o : Option Report) → length bytes ≤ mostBytes → isSome o ≡ true → ToldOf partsOutcome (split lineEnd bytes) o → Told (fileOutcome bytes) o
-file-told bytes None short s h = absurd (false≢true s)
-file-told bytes (Some r) short s h = cond-false (ltb mostBytes (length bytes)) _ _ (le-ltb mostBytes (length bytes) short) ∙ h
+lines-no-text : (bytes : List ℕ) (o : Option Report) → length bytes ≤ mostBytes → isSome o ≡ true → ToldOf partsOutcome (split lineEnd bytes) o → (ws : List Written) → TextOf bytes ws → ⊥
+lines-no-text bytes None short s h ws t = false≢true s
+lines-no-text bytes (Some r) short s h ws t =
+    fault-no-text bytes (r .refusal) (r .line) (r .column) (cond-false (ltb mostBytes (length bytes)) _ _ (le-ltb mostBytes (length bytes) short) ∙ h) ws t
 
 refused-no-text : (bytes : List ℕ) (what : FileFault) → Refuses bytes what → isSome (fileTold what) ≡ true → (ws : List Written) → TextOf bytes ws → Free ws → ⊥
-refused-no-text bytes Overlong h s ws t free = told-no-text bytes (fileTold Overlong) h s ws t
-refused-no-text bytes Headless h s ws t free = told-no-text bytes (fileTold Headless) h s ws t
-refused-no-text bytes (Line f) h s ws t free = told-no-text bytes (lineTold f) (file-told bytes (lineTold f) (h .0) s (h .1)) s ws t
+refused-no-text bytes Overlong h s ws t free = fault-no-text bytes refusal.Overfull 0 0 h ws t
+refused-no-text bytes Headless h s ws t free = fault-no-text bytes refusal.Headless 1 0 h ws t
+refused-no-text bytes (Line f) h s ws t free = lines-no-text bytes (lineTold f) (h .0) s (h .1) ws t
 refused-no-text bytes (Ringed line) h s ws t free =
     let e : h .0 ≡ ws = same-rules (h .0) ws (sym (h .2) ∙ says-its-text bytes ws .1 t) in
     free (h .1 .0 - 1) (subst (λ (vs : List Written). Barred (rulesOf vs) (h .1 .0 - 1)) e (h .3 .barred))

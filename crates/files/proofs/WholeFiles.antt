@@ -14,7 +14,7 @@ use Rattle.rules.specs.Written.{Written, spelt}
 use Rattle.files.specs.declared.columns.RuleColumn.{RuleColumn}
 use Rattle.files.specs.Parts.{split, joined, ended}
 use Rattle.files.specs.RuleFiles.{rules, fault, comma, lineEnd, mostBytes, columnName, eachOnce, columnOrder, linesOutcome, partsOutcome, fileOutcome}
-use Rattle.files.specs.RuleTexts.{cell, ruleLine, allSpelt, Limited, TextOf, SaysItsText, TextsAreShort}
+use Rattle.files.specs.RuleTexts.{cell, ruleLine, ruleText, allSpelt, Limited, TextOf}
 use Rattle.files.proofs.Texts.{lacks, allLack}
 use Rattle.files.proofs.Splits.{joined-split, joined-ended, split-ended}
 use Rattle.files.proofs.Names.{column-label}
@@ -23,6 +23,14 @@ use Rattle.files.proofs.Rows.{row-lacks, row-short}
 use Rattle.files.proofs.Values.{cell-label}
 use Rattle.files.proofs.Lines.{fault-rules, lines-say, lines-said}
 use Rattle.files.proofs.Heads.{order-says, order-said}
+
+-- A file says these rules exactly if it is their text.
+abbrev pub SaysItsText : Type 0
+SaysItsText = (bytes : List ℕ) (ws : List Written) → (fileOutcome bytes ≡ rules ws → TextOf bytes ws) × (TextOf bytes ws → fileOutcome bytes ≡ rules ws)
+
+-- The text of rules within the limits is never too long for a file.
+abbrev pub TextsAreShort : Type 0
+TextsAreShort = (cs : List RuleColumn) (ws : List Written) → eachOnce cs ≡ true → Limited ws → length (ruleText cs ws) ≤ mostBytes
 
 -- The lines of a text: the names line, and a line for each rule.
 abbrev lines : List RuleColumn → List Written → List (List ℕ)

@@ -40,10 +40,10 @@ use Rattle.files.specs.Faults.{fieldTold, lineTold, fileTold, reported}
 abbrev pub saidBy : RuleWords → Written
 saidBy w = record { label = now (w .label); first = now (w .first); how = w .how; second = now (w .second) }
 
--- The outcome is the fault that is told. Where none is told, there was no memory for a rule that nothing refuses.
-abbrev pub Told : Outcome → Option Report → Type 0
-Told outcome None = (ws : List Written) × (outcome ≡ rules ws)
-Told outcome (Some r) = outcome ≡ fault (r .refusal) (r .line) (r .column)
+-- The outcome is the fault that is told. Where none is told, there was no memory for one more rule that nothing refuses.
+abbrev pub Told : List Written → Outcome → Option Report → Type 0
+Told ws outcome None = (last : Written) × (outcome ≡ rules (ws ++ (last ∷ [])))
+Told ws outcome (Some r) = outcome ≡ fault (r .refusal) (r .line) (r .column)
 
 -- The field is wrong under the column.
 pub record MisfitAt (column : RuleColumn) (cell : Part) (what : FieldFault) : Type 0 where
@@ -63,20 +63,21 @@ pub record Reads (order : ColumnOrder) (cells : Cells) (words : RuleWords) : Typ
   pub rule : saidBy words ≡ ruleIn (inOrder order) (bytesIn cells)
   pub labels : spelt (saidBy words) ≡ true
 
--- Reading goes on with these rules, or stops at the fault.
-abbrev pub GoesOn : {T : Type 0} → Outcome → List Written → Result T LineFault → Type 0
-GoesOn outcome ws (Ok x) = outcome ≡ rules ws
-GoesOn outcome ws (Err what) = Told outcome (lineTold what)
+-- After the rules ws reading goes on with more, or stops at the fault.
+abbrev pub GoesOn : {T : Type 0} → List Written → Outcome → List Written → Result T LineFault → Type 0
+GoesOn ws outcome more (Ok x) = outcome ≡ rules more
+GoesOn ws outcome more (Err what) = Told ws outcome (lineTold what)
 
--- The first lines, up to one, say rules.
+-- The first lines, up to one, say rules, of which the last is the one for which there was no memory.
 pub record Fronted (says : List (List ℕ) → Outcome) (parts : List (List ℕ)) : Type 0 where
   pub front : List (List ℕ)
   pub back : List (List ℕ)
   pub cut : parts ≡ front ++ back
-  pub more : List Written
-  pub says-rules : says (front ++ ([] ∷ [])) ≡ rules more
+  pub before : List Written
+  pub last : Written
+  pub says-rules : says (front ++ ([] ∷ [])) ≡ rules (before ++ (last ∷ []))
 
--- What the lines say is the fault that is told. Where none is told, there was no memory after lines that say rules.
+-- What the lines say is the fault that is told. Where none is told, there was no memory for a rule that nothing refuses.
 abbrev pub ToldOf : (List (List ℕ) → Outcome) → List (List ℕ) → Option Report → Type 0
 ToldOf says parts None = Fronted says parts
 ToldOf says parts (Some r) = says parts ≡ fault (r .refusal) (r .line) (r .column)
@@ -112,8 +113,8 @@ pub record HeadWrong (from : Lines) (what : FileFault) : Type 0 where
 
 -- What is answered of a file that is refused.
 abbrev pub Refuses : List ℕ → FileFault → Type 0
-Refuses bytes Overlong = Told (fileOutcome bytes) (fileTold Overlong)
-Refuses bytes Headless = Told (fileOutcome bytes) (fileTold Headless)
+Refuses bytes Overlong = fileOutcome bytes ≡ fault refusal.Overfull 0 0
+Refuses bytes Headless = fileOutcome bytes ≡ fault refusal.Headless 1 0
 Refuses bytes (Line what) = (length bytes ≤ mostBytes) × ToldOf partsOutcome (split lineEnd bytes) (lineTold what)
 -- the file says rules, of which the one in that line is the lowest exclusive rule in a ring; the line of rule 1 is 2
 Refuses bytes (Ringed line) = (ws : List Written) × (who : RuleNo) × (fileOutcome bytes ≡ rules ws) × LowestBarred (rulesOf ws) who × (line ≡ who .0 + 1)

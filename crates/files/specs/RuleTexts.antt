@@ -9,7 +9,7 @@ use Rattle.rules.specs.Written.{Written, namesOf, spelt}
 use Rattle.files.specs.declared.columns.RuleColumn.{RuleColumn}
 use Rattle.files.specs.declared.columns.RuleColumn.the-variants.{Label, First, How, Second}
 use Rattle.files.specs.Parts.{joined, ended}
-use Rattle.files.specs.RuleFiles.{Outcome, rules, comma, lineEnd, mostBytes, columnName, eachOnce, fileOutcome}
+use Rattle.files.specs.RuleFiles.{comma, lineEnd, mostBytes, columnName, eachOnce}
 
 -- What a rule has under a column.
 abbrev pub cell : RuleColumn → Written → List ℕ
@@ -42,11 +42,3 @@ pub record TextOf (bytes : List ℕ) (ws : List Written) : Type 0 where
   pub text : bytes ≡ ruleText order ws
   pub limited : Limited ws
   pub short : length bytes ≤ mostBytes
-
--- A file says these rules exactly if it is their text.
-abbrev pub SaysItsText : Type 0
-SaysItsText = (bytes : List ℕ) (ws : List Written) → (fileOutcome bytes ≡ rules ws → TextOf bytes ws) × (TextOf bytes ws → fileOutcome bytes ≡ rules ws)
-
--- The text of rules within the limits is never too long for a file.
-abbrev pub TextsAreShort : Type 0
-TextsAreShort = (cs : List RuleColumn) (ws : List Written) → eachOnce cs ≡ true → Limited ws → length (ruleText cs ws) ≤ mostBytes

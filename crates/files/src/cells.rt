@@ -11,7 +11,7 @@ use crate::parts::Part;
 
 // The four fields of a line, from the left.
 #[derive(Clone, Copy)]
-pub struct Cells<'a>(pub Part<'a>, pub Part<'a>, pub Part<'a>, pub Part<'a>);
+pub(crate) struct Cells<'a>(pub Part<'a>, pub Part<'a>, pub Part<'a>, pub Part<'a>);
 
 // The next field, which has to be there.
 fn due_field<'a>(line: &mut Line<'a>) -> Result<Part<'a>, LineFault>

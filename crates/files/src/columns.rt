@@ -70,7 +70,7 @@ pub(crate) fn field_under(column: RuleColumn, part: Part<'_>) -> Field<'_>
 
 // The columns in the order of a names line, from the left.
 #[derive(Clone, Copy)]
-pub struct ColumnOrder(
+pub(crate) struct ColumnOrder(
     pub RuleColumn,
     pub RuleColumn,
     pub RuleColumn,

@@ -49,8 +49,8 @@ impl<'a> Part<'a> {
 }
 
 impl Field<'_> {
-    // Whether the field is right in a rule file, which has labels and relation words alone.
-    pub fn check_in_rule(self) -> Result<(), FieldFault>
+    // What is wrong with the field in a rule file, which has labels and relation words alone.
+    pub(crate) fn check_in_rule(self) -> Result<(), FieldFault>
         ensures { λ r. ⌜ ByOk r (λ _. faultIn (self .entry) ≡ None) (λ fault. faultIn (self .entry) ≡ Some fault) ⌝ }
     {
         match self {
@@ -62,14 +62,7 @@ impl Field<'_> {
                 part.relation()?;
                 Ok(())
             }
-            Field::Act(part) => Err(FieldFault::NoAct {
-                line: part.line,
-                column: part.column,
-            }),
-            Field::When(part) => Err(FieldFault::Undated {
-                line: part.line,
-                column: part.column,
-            }),
+            Field::Act(_) | Field::When(_) => Ok(()),
         }
     }
 }

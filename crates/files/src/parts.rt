@@ -21,7 +21,7 @@ pub struct Part<'a> {
 
 // A line from which fields are taken from the left.
 #[derive(Clone, Copy)]
-pub struct Line<'a> {
+pub(crate) struct Line<'a> {
     // what has not been taken
     pub rest: &'a [u8],
     // whether the last field has been taken
@@ -36,7 +36,7 @@ pub struct Line<'a> {
 
 // A file from which lines are taken from the top.
 #[derive(Clone, Copy)]
-pub struct Lines<'a> {
+pub(crate) struct Lines<'a> {
     pub rest: &'a [u8],
     pub over: bool,
     // the number of the next line, from 1

@@ -39,7 +39,7 @@ const MOST_BYTES: usize = 32768;
 
 // A rule as a line says it.
 #[derive(Clone, Copy)]
-pub struct RuleWords<'a> {
+pub(crate) struct RuleWords<'a> {
     pub label: &'a str,
     pub first: &'a str,
     pub how: Relation,
@@ -86,7 +86,7 @@ fn read_rule<'a>(order: ColumnOrder, cells: Cells<'a>) -> Result<RuleWords<'a>, 
 // Writes the rule into the draft. Its labels are labels, so that only a want of room or of memory is left to refuse it.
 fn add_rule(draft: &mut Draft, words: RuleWords<'_>, line: usize) -> Result<(), LineFault>
     requires { ⌜ spelt (saidBy words) ≡ true ⌝ }
-    ensures { λ r. ⌜ GoesOn (addOutcome line (drafted (now (draft .entry))) (saidBy (words .entry))) (drafted (now (draft .exit))) r ⌝ }
+    ensures { λ r. ⌜ GoesOn (drafted (now (draft .entry))) (addOutcome line (drafted (now (draft .entry))) (saidBy (words .entry))) (drafted (now (draft .exit))) r ⌝ }
 {
     match draft.add(words.label, words.first, words.how, words.second) {
         Ok(_) => Ok(()),
@@ -107,7 +107,7 @@ fn unadded_in(why: AddFault, line: usize) -> LineFault
 // Reads a line of values into the draft. What stands after the last line end is nothing, or a line without its end.
 fn read_line(line: Line<'_>, order: ColumnOrder, draft: &mut Draft) -> Result<(), LineFault>
     requires { ⌜ Whole line ⌝ ∗ ⌜ eachOnce (inOrder order) ≡ true ⌝ }
-    ensures { λ r. ⌜ GoesOn (restOutcome (inOrder order) (line .entry .number) (drafted (now (draft .entry))) (line .entry .ended) (now (line .entry .rest))) (drafted (now (draft .exit))) r ⌝ }
+    ensures { λ r. ⌜ GoesOn (drafted (now (draft .entry))) (restOutcome (inOrder order) (line .entry .number) (drafted (now (draft .entry))) (line .entry .ended) (now (line .entry .rest))) (drafted (now (draft .exit))) r ⌝ }
 {
     let number = line.number;
     if !line.ended {

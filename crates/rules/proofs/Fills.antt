@@ -95,16 +95,3 @@ in-place-works rules leads tells order m o =
     let b = r .1 in
     (omega arith, omega arith, ap (λ (x : ℕ). placeOf leads (length rules) x) s ∙ r .2) in
     working rules leads tells (take (length rules) order) (record { long = len; numbered = λ p h. one p h .0; only = λ p h. one p h .1; placed = λ p h. one p h .2 })
-
-pub in-place-together : (rules : List Rule) (leads : ℕ → ℕ → Bool) (tells : (i j : ℕ) → Decides (leads i j) (Leads rules i j)) (order : List RuleNo)
-    → length rules ≤ length order → InPlace leads (length rules) order → (p q r : ℕ) → p < q → q < r → r < length rules → OneGroup rules (at order p) (at order r) → OneGroup rules (at order p) (at order q)
-in-place-together rules leads tells order m o p q r l k h g =
-    let w = in-place-works rules leads tells order m o in
-    let len = w .long in
-    let a : at (take (length rules) order) p ≡ at order p = at-take order (length rules) p (omega arith) in
-    let b : at (take (length rules) order) q ≡ at order q = at-take order (length rules) q (omega arith) in
-    let c : at (take (length rules) order) r ≡ at order r = at-take order (length rules) r h in
-    let start : OneGroup rules (at (take (length rules) order) p) (at (take (length rules) order) r) =
-    subst (λ (x : ℕ). OneGroup rules x (at (take (length rules) order) r)) (sym a) (subst (λ (x : ℕ). OneGroup rules (at order p) x) (sym c) g) in
-    subst (λ (x : ℕ). OneGroup rules x (at order q)) a (subst (λ (x : ℕ). OneGroup rules (at (take (length rules) order) p) x) b
-    (w .together p q r l k (omega arith) start))

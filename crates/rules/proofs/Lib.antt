@@ -7,7 +7,6 @@ pub mod Rings
 pub mod Counts
 pub mod Ordering
 pub mod Fills
-pub mod Ghosts
 pub mod Numbering
 pub mod Drafting
 pub mod Keeping

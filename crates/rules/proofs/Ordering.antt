@@ -15,7 +15,7 @@ use Rattle.rules.specs.Words.{ReadBy, Leads, InOneRing, OneGroup, WorkingOrder
 use Rattle.rules.specs.Keys.{tally, least, rankOf, leaderOf, earlier, placeOf}
 use Rattle.rules.proofs.Counts.{tally-le, tally-more, tally-same, tally-less, least-is, Lowest}
 use Rattle.rules.proofs.Paths.{leads-one, leads-more}
-use Rattle.rules.proofs.Rings.{leads-from, leads-to, one-ring-leads, leads-one-ring}
+use Rattle.rules.proofs.Rings.{one-ring-leads, leads-one-ring}
 
 -- ---- three numbers, compared in turn
 

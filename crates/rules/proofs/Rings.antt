@@ -10,19 +10,9 @@ use Rattle.rules.specs.Words.{ReadBy, Chain, alone, next, Leads, Ring, InRing,
 use Rattle.rules.proofs.Paths.{chain-join, leads-one, leads-more}
 
 module _ (rules : List Rule) where
-  chain-from : {a b : ℕ} {xs : List ℕ} → Chain rules a xs b → a < length rules
-  chain-from (alone h) = h
-  chain-from (next r p) = r .from-table
-
   chain-first : {a b : ℕ} {xs : List ℕ} → Chain rules a xs b → List·Memᴰ a xs
   chain-first (alone h) = List·Memᴰ·head refl
   chain-first (next r p) = List·Memᴰ·head refl
-
-  pub leads-from : (a b : ℕ) → Leads rules a b → a < length rules
-  leads-from a b l = chain-from (l .2)
-
-  pub leads-to : (a b : ℕ) → Leads rules a b → b < length rules
-  leads-to a b l = l .3 .to-table
 
   -- A rule of a chain is its first or is led to by it, and a chain goes on from it.
   abbrev Split : ℕ → ℕ → ℕ → Type 0
@@ -65,13 +55,6 @@ module _ (rules : List Rule) where
   pub leads-one-ring : (a b : ℕ) → Leads rules a b → Leads rules b a → InOneRing rules a b
   leads-one-ring a b p q =
       (p .0 ++ q .0, (a, q .1, chain-join rules (p .2) (p .3) (q .2), q .3), Memᴰ·append-left (q .0) (chain-first (p .2)), Memᴰ·append-right (p .0) (chain-first (q .2)))
-
-  pub apart-leads : (a b : ℕ) → (a ≡ b → ⊥) → OneGroup rules a b → Leads rules a b × Leads rules b a
-  apart-leads a b ne (inl e) = absurd (ne e)
-  apart-leads a b ne (inr o) = one-ring-leads a b o
-
-  pub leads-group : (a b : ℕ) → Leads rules a b → Leads rules b a → OneGroup rules a b
-  leads-group a b p q = inr (leads-one-ring a b p q)
 
   -- an exclusive rule in a ring, and none below it, by number
   pub lowest-barred : (i : ℕ) → Barred rules i → ((k : ℕ) → k < i → Barred rules k → ⊥) → LowestBarred rules (record { 0 = i + 1 })

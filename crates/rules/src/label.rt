@@ -24,7 +24,7 @@ fn is_label_byte(b: u8) -> bool
 }
 
 // Whether the bytes are a label: 1 to 16 bytes of a–z, 0–9 and hyphen, a letter first.
-pub fn is_label(bytes: &[u8]) -> bool
+pub(crate) fn is_label(bytes: &[u8]) -> bool
     ensures { λ r. ⌜ r ≡ isLabel (now (bytes .entry)) ⌝ }
 {
     if bytes.is_empty() || bytes.len() > LONGEST {

@@ -18,7 +18,6 @@ mod text;
 pub use draft::AddFault;
 pub use draft::Draft;
 pub use group::Group;
-pub use label::is_label;
 pub use label::read_label;
 pub use relation::Relation;
 pub use rule::Rule;

@@ -4,7 +4,7 @@ ghost use Prim.Native.Nat.{ℕ, _<_};
 ghost use lib.Dec.{eqb};
 ghost use Rattle.rules.specs.RuleSets.{holds};
 
-// A set of rules of one table, by their places.
+// A set of rules of one table, by their indexes.
 #[derive(Clone, Copy)]
 pub(crate) struct RuleSet(u64);
 
