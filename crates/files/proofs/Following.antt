@@ -105,7 +105,6 @@ lines-push cs n ws vs us [] line h e =
     ap (λ (o : Outcome). after o (λ m. linesOutcome cs (n + 1) m ([] ∷ []))) first
 lines-push cs n ws vs us (l ∷ front) line h e = go (lineOutcome cs n ws l) refl (λ more into far. lines-push cs (n + 1) more vs us front line into far)
   where
-
     step : (front : List (List ℕ)) → linesOutcome cs n ws (l ∷ (front ++ ([] ∷ []))) ≡ after (lineOutcome cs n ws l) (λ more. linesOutcome cs (n + 1) more (front ++ ([] ∷ [])))
     step front = next-line cs n ws l (front ++ ([] ∷ [])) ∙ ap (λ (t : Bool). after (restOutcome cs n ws t l) (λ more. linesOutcome cs (n + 1) more (front ++ ([] ∷ [])))) (any-push front)
 

@@ -1,5 +1,5 @@
 -- From the bytes of a file to the lines after the names line.
-use mathlib.Core.Path.{_≡_, refl, sym, ap, subst, _∙_}
+use mathlib.Core.Path.{_≡_, sym, ap, _∙_}
 use mathlib.Core.Bool.{true}
 use mathlib.Core.List.{List, [], _∷_, _++_}
 use Prim.Native.Nat.{ℕ, _+_, _≤_, _<_, _^_}
@@ -17,14 +17,13 @@ use Rattle.files.specs.declared.columns.RuleColumn.{RuleColumn}
 use Rattle.files.specs.declared.columns.ColumnOrder.{ColumnOrder}
 use Rattle.files.specs.declared.fault.Report.{Report}
 use Rattle.files.specs.declared.fault.LineFault.{LineFault}
-use Rattle.files.specs.declared.fault.FileFault.{FileFault}
 use Rattle.files.specs.declared.fault.FileFault.the-variants as ofFile
 use Rattle.files.specs.Parts.{split}
-use Rattle.files.specs.RuleFiles.{Outcome, rules, fault, lineEnd, mostBytes, linesOutcome, partsOutcome, fileOutcome}
+use Rattle.files.specs.RuleFiles.{rules, fault, lineEnd, mostBytes, linesOutcome, partsOutcome, fileOutcome}
 use Rattle.files.specs.Columns.{inOrder}
 use Rattle.files.specs.Cursors.{linesLeft, anyLeft, Begun}
 use Rattle.files.specs.Faults.{lineTold}
-use Rattle.files.specs.Answers.{ToldOf, HeadRead, HeadWrong, Refuses}
+use Rattle.files.specs.Answers.{ToldOf, HeadRead, Refuses}
 use Rattle.files.proofs.Cutting.{split-few}
 use Rattle.files.proofs.Following.{any-push}
 

@@ -1,8 +1,8 @@
 -- What is read is the text of its rules, and the text of a table is read back.
 use mathlib.Core.Path.{_≡_, refl, sym, ap, subst, _∙_}
-use mathlib.Core.Bool.{Bool, true, false, _&&_}
+use mathlib.Core.Bool.{true, false}
 use mathlib.Core.Logic.{inl, inr}
-use mathlib.Core.List.{List, [], _∷_, map}
+use mathlib.Core.List.{List, [], _∷_}
 use Prim.Native.Nat.{ℕ, _-_, _<_, _≤_}
 use native.Mathlib.Omega.{arith}
 use lib.Dec.{ltb}
@@ -22,7 +22,7 @@ use Rattle.rules.specs.Labels.{isLabel}
 use Rattle.rules.specs.Tables.{namesIn, rulesIn, tabled}
 use Rattle.rules.specs.Words.{Barred}
 use Rattle.rules.specs.Written.{Written, namesOf, rulesOf, nameAt, spellRule, spellRules, spelt, inRange, allInRange}
-use Rattle.rules.proofs.Keeping.{Kept, range-parts, labels-each}
+use Rattle.rules.proofs.Keeping.{range-parts}
 use Rattle.rules.proofs.Closings.{table-kept, table-closed}
 use Rattle.files.specs.declared.columns.RuleColumn.{RuleColumn}
 use Rattle.files.specs.declared.fault.FileFault.{FileFault}
@@ -30,7 +30,7 @@ use Rattle.files.specs.declared.fault.FileFault.the-variants.{Overlong, Headle
 use Rattle.files.specs.declared.fault.Report.{Report}
 use Rattle.files.specs.Answers.{Answers, Refuses, ToldOf}
 use Rattle.files.specs.Faults.{fileTold, lineTold}
-use Rattle.files.specs.RuleFiles.{Outcome, rules, fault, eachOnce, partsOutcome, fileOutcome, lineEnd, mostBytes}
+use Rattle.files.specs.RuleFiles.{rules, fault, eachOnce, partsOutcome, fileOutcome, lineEnd, mostBytes}
 use Rattle.files.specs.Parts.{split}
 use Rattle.files.specs.RuleTexts.{TextOf, Limited, allSpelt, ruleText}
 use Rattle.files.specs.RuleLaws.{Free, AcceptsTexts, SameTable, ReadsBack}

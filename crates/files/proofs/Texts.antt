@@ -6,7 +6,7 @@ use mathlib.Core.List.{List, [], _∷_, _++_}
 use Prim.Native.Nat.{ℕ, _≤_}
 use lib.Dec.{leb, eqb}
 use lib.ListN.{length}
-use Rattle.std.proofs.shelf.Tests.{false≢true, both-ways, and-parts, and-from, leb-true, eqb-true, eq-eqb, cases-bool, not-from-false}
+use Rattle.std.proofs.shelf.Tests.{false≢true, both-ways, and-parts, and-from, leb-true, eqb-true, cases-bool, not-from-false}
 use Rattle.rules.specs.Labels.{letter, labelByte, allLabelBytes, isLabel}
 
 -- The byte b is not in the text.

@@ -29,12 +29,12 @@ use Rattle.files.specs.declared.fault.FileFault.{FileFault}
 use Rattle.files.specs.declared.fault.FileFault.the-variants.{Overlong, Headless, Line, Ringed, OutOfMemory}
 use Rattle.files.specs.declared.fault.Report.{Report}
 use Rattle.files.specs.declared.rule_file.RuleWords.{RuleWords}
-use Rattle.files.specs.RuleFiles.{Outcome, rules, fault, fits, misfit, firstMisfit, ruleIn, lineOutcome, linesOutcome, partsOutcome, fileOutcome, columnOrder, eachOnce, lineEnd, mostBytes}
+use Rattle.files.specs.RuleFiles.{Outcome, rules, fault, fits, misfit, firstMisfit, ruleIn, lineOutcome, partsOutcome, fileOutcome, columnOrder, eachOnce, lineEnd, mostBytes}
 use Rattle.files.specs.Parts.{split}
 use Rattle.files.specs.Columns.{inOrder}
 use Rattle.files.specs.Cells.{bytesIn}
 use Rattle.files.specs.Cursors.{linesLeft, anyLeft}
-use Rattle.files.specs.Faults.{fieldTold, lineTold, fileTold, reported}
+use Rattle.files.specs.Faults.{fieldTold, lineTold, reported}
 
 -- The rule that the words say.
 abbrev pub saidBy : RuleWords → Written

@@ -1,5 +1,5 @@
 -- What a rule file says: its rules as they are written, or its first fault. Whether an exclusive rule is in a ring is asked afterwards.
-use mathlib.Core.Bool.{Bool, true, false, cond, _&&_, _||_}
+use mathlib.Core.Bool.{Bool, false, cond, _&&_, _||_}
 use mathlib.Core.List.{List, [], _∷_, _++_}
 use Prim.Native.Nat.{ℕ, _+_}
 use lib.Chars.{codes}
@@ -10,7 +10,6 @@ use Rattle.std.specs.declared.option.Option.the-variants.{Some, None}
 use Rattle.std.specs.Options.{isSome, valueOr}
 use Rattle.terms.specs.declared.refusal.Refusal.{Refusal}
 use Rattle.terms.specs.declared.refusal.Refusal.the-variants.{Headless, Ragged, Misspelt, Unrelated, Overfull, Unended}
-use Rattle.rules.specs.declared.relation.Relation.{Relation}
 use Rattle.rules.specs.declared.relation.Relation.the-variants.{Before}
 use Rattle.rules.specs.Texts.{sameText}
 use Rattle.rules.specs.Labels.{isLabel}

@@ -1,6 +1,6 @@
 -- What the reader of rule files promises over all files, in the words of rules and their text.
 use mathlib.Core.Path.{_≡_}
-use mathlib.Core.Bool.{Bool, true, false}
+use mathlib.Core.Bool.{true, false}
 use mathlib.Core.List.{List}
 use Prim.Native.Nat.{ℕ}
 use Rattle.std.specs.Options.{isSome}

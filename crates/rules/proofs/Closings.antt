@@ -1,20 +1,18 @@
 -- What the fields of a closed table say, in the words of rules, rings and groups.
-use mathlib.Core.Path.{_≡_, refl, sym, ap, subst, _∙_}
+use mathlib.Core.Path.{_≡_, sym, ap, subst, _∙_}
 use mathlib.Core.Bool.{Bool}
 use mathlib.Core.List.{List}
-use Prim.Native.Nat.{ℕ, _<_, _≤_}
+use Prim.Native.Nat.{ℕ}
 use native.Mathlib.Omega.{arith}
 use lib.ListN.{length, take}
-use Rattle.std.specs.Of.Vec.{vec-items}
 use Rattle.std.specs.Orderings.{Decides}
 use Rattle.terms.specs.declared.numbers.RuleNo.{RuleNo}
 use Rattle.rules.specs.declared.group.Group.{Group}
-use Rattle.rules.specs.declared.rule.Rule.{Rule}
 use Rattle.rules.specs.declared.table.Table.{Table}
-use Rattle.rules.specs.Words.{Leads, WorkingOrder, Holds, at, startOf, endOf}
+use Rattle.rules.specs.Words.{Leads, WorkingOrder, at, startOf, endOf}
 use Rattle.rules.specs.Keys.{InPlace, PartsTo, oneGroup}
 use Rattle.rules.specs.Reach.{leadsTo}
-use Rattle.rules.specs.Written.{nameAt, indexOf}
+use Rattle.rules.specs.Written.{indexOf}
 use Rattle.rules.specs.Tables.{namesIn, rulesIn, orderIn, groupsIn, Closed}
 use Rattle.rules.proofs.Paths.{leads-to-tells}
 use Rattle.rules.proofs.Fills.{in-place-works, at-take}

@@ -1,12 +1,12 @@
 -- Tallies, and the lowest that passes.
-use mathlib.Core.Path.{_≡_, refl, sym, ap, subst, _∙_}
-use mathlib.Core.Bool.{Bool, true, false, not, cond, _&&_, _||_}
-use mathlib.Core.Logic.{_⊎_, inl, inr}
+use mathlib.Core.Path.{_≡_, sym, ap, subst, _∙_}
+use mathlib.Core.Bool.{Bool, true, false, not, _&&_, _||_}
+use mathlib.Core.Logic.{inl, inr}
 use Prim.Native.Nat.{ℕ, zero, suc, _+_, _<_, _≤_}
 use native.Mathlib.Omega.{arith}
 use native.Mathlib.Numerals.{add-one}
-use lib.Dec.{eqb, ltb}
-use Rattle.std.proofs.shelf.Tests.{and-parts, and-from, and-left, and-right, or-cases, or-left, or-right, or-from, ltb-true, lt-ltb, eqb-true, eq-eqb, ne-eqb, cases-bool, cases-lt, cases-eq, cases-order, both-ways, not-true, cond-true, cond-false, not-from-true, not-from-false}
+use lib.Dec.{eqb}
+use Rattle.std.proofs.shelf.Tests.{and-parts, and-from, or-cases, or-left, or-right, or-from, eqb-true, eq-eqb, ne-eqb, cases-bool, cases-lt, cases-eq, cases-order, both-ways, not-true, cond-true, cond-false, not-from-false}
 use Rattle.rules.specs.Keys.{tally, least}
 
 pub tally-in : (p : ℕ → Bool) (n : ℕ) → p n ≡ true → tally p (suc n) ≡ tally p n + 1

@@ -1,12 +1,9 @@
 -- Names and rules that are added to a draft.
 use mathlib.Core.Path.{_≡_, refl, sym, ap, subst, _∙_}
-use mathlib.Core.Bool.{Bool, true, false, cond, _&&_}
-use mathlib.Core.Logic.{_⊎_, inl, inr}
-use mathlib.Core.List.{List, [], _∷_, _++_, map}
-use Prim.Native.Nat.{ℕ, zero, suc, _+_, _<_, _≤_}
+use mathlib.Core.List.{List, [], _∷_, _++_}
+use Prim.Native.Nat.{ℕ, _+_, _<_}
 use native.Mathlib.Omega.{arith}
-use lib.Dec.{leb, ltb}
-use lib.ListN.{length, take, length-append}
+use lib.ListN.{length, length-append}
 use Rattle.std.specs.Of.String.{string-bytes}
 use Rattle.std.specs.declared.string.String.{String}
 use Rattle.std.specs.declared.alloc.AllocError.{AllocError}
@@ -15,7 +12,6 @@ use Rattle.std.specs.declared.result.Result.the-variants.{Ok, Err}
 use Rattle.std.proofs.shelf.Lists.{map-append, append-nil, length-map}
 use Rattle.rules.specs.declared.rule.Rule.{Rule}
 use Rattle.terms.specs.declared.numbers.LabelNo.{LabelNo}
-use Rattle.terms.specs.declared.numbers.RuleNo.{RuleNo}
 use Rattle.rules.specs.Texts.{texts}
 use Rattle.rules.specs.Drafts.{Entered, Wrote, Extends}
 use Rattle.rules.specs.Written.{Written, indexOf, enter, enterRule, labelNo, numberRule}

@@ -1,21 +1,21 @@
 -- An order that is filled rule by rule, each rule at its place.
-use mathlib.Core.Path.{_≡_, refl, sym, ap, subst, _∙_}
-use mathlib.Core.Bool.{Bool, true, false, not, cond, _&&_, _||_}
-use mathlib.Core.Logic.{_⊎_, inl, inr}
+use mathlib.Core.Path.{_≡_, refl, sym, ap, _∙_}
+use mathlib.Core.Bool.{Bool, true, false, _||_}
+use mathlib.Core.Logic.{inl, inr}
 use mathlib.Core.List.{List}
 use Prim.Native.Nat.{ℕ, zero, suc, _+_, _-_, _<_, _≤_}
 use native.Mathlib.Omega.{arith}
-use lib.Dec.{eqb, ltb}
-use lib.ListN.{length, getD, set, take}
+use lib.Dec.{eqb}
+use lib.ListN.{length, set, take}
 use Rattle.std.specs.Orderings.{Decides}
 use Rattle.std.proofs.shelf.Lists.{getD-set-same, getD-set-other, getD-take, length-set, length-take-le}
 use Rattle.std.proofs.shelf.Tests.{or-cases, eqb-true, cases-bool, cases-eq, false≢true}
 use Rattle.rules.specs.declared.rule.Rule.{Rule}
 use Rattle.terms.specs.declared.numbers.RuleNo.{RuleNo}
-use Rattle.rules.specs.Words.{Leads, OneGroup, WorkingOrder, numberAt, at}
+use Rattle.rules.specs.Words.{Leads, WorkingOrder, numberAt, at}
 use Rattle.rules.specs.Keys.{tally, placeOf, InPlace}
 use Rattle.rules.proofs.Counts.{tally-add, tally-all, tally-out}
-use Rattle.rules.proofs.Ordering.{place-below, place-one, Placed, working}
+use Rattle.rules.proofs.Ordering.{place-below, place-one, working}
 
 tally-none : (n : ℕ) → tally (λ _. false) n ≡ 0
 tally-none zero = refl

@@ -1,14 +1,14 @@
 -- What a draft keeps while rules are added: its names are those of its rules, in the order of first appearance.
 use mathlib.Core.Path.{_≡_, refl, sym, ap, subst, _∙_}
-use mathlib.Core.Bool.{Bool, true, false, cond, _&&_}
-use mathlib.Core.Logic.{_⊎_, inl, inr}
-use mathlib.Core.List.{List, [], _∷_, _++_, map}
+use mathlib.Core.Bool.{true}
+use mathlib.Core.Logic.{inl, inr}
+use mathlib.Core.List.{List, [], _∷_, _++_}
 use Prim.Native.Nat.{ℕ, zero, suc, _+_, _<_, _≤_}
 use native.Mathlib.Omega.{arith}
-use lib.Dec.{leb, ltb}
-use lib.ListN.{length, getD, length-append}
+use lib.Dec.{ltb}
+use lib.ListN.{length, length-append}
 use Rattle.std.specs.declared.option.Option.the-variants.{Some, None}
-use Rattle.std.proofs.shelf.Lists.{map-append, append-nil, length-map, getD-append-left, getD-push}
+use Rattle.std.proofs.shelf.Lists.{map-append, length-map, getD-append-left, getD-push}
 use Rattle.std.proofs.shelf.Tests.{and-parts, and-from, and-left, and-right, ltb-true, lt-ltb, le-ltb, le-leb, lt-leb, leb-true, cond-true, cond-false, cases-bool, cases-lt}
 use Rattle.std.specs.declared.option.Option.{Option}
 use Rattle.terms.specs.declared.refusal.Refusal.{Refusal}

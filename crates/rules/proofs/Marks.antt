@@ -1,13 +1,13 @@
 -- The bits of a set: of none, of a join and of one more.
-use mathlib.Core.Path.{_≡_, refl, sym, ap, subst, _∙_}
-use mathlib.Core.Bool.{Bool, true, false, _&&_, _||_}
+use mathlib.Core.Path.{_≡_, refl, sym, ap, _∙_}
+use mathlib.Core.Bool.{false, _||_}
 use mathlib.Core.Logic.{_⊎_, inl, inr}
-use Prim.Native.Nat.{ℕ, zero, suc, _+_, _-_, _*_, _/_, _%_, _^_, _<_, _≤_}
+use Prim.Native.Nat.{ℕ, zero, suc, _+_, _-_, _*_, _/_, _%_, _^_, _<_}
 use native.Mathlib.Omega.{arith}
 use native.Mathlib.Nat.{zero-div, div-self, div-eq-of-lt, mul-mod-left, pow-suc}
 use lib.Dec.{eqb}
 use lib.Bits.{bitAnd, bitOr}
-use Rattle.std.proofs.shelf.Bits.{pow-pos, pow-add, and-mask, or-shr, or-mod, shl-shr, one-shl, pow-below, div-below, mod-below, shl-whole}
+use Rattle.std.proofs.shelf.Bits.{pow-pos, pow-add, and-mask, or-shr, or-mod, shl-shr, one-shl, pow-below, mod-below}
 use Rattle.std.proofs.shelf.Tests.{cases-order, eq-eqb, ne-eqb}
 use Rattle.rules.specs.RuleSets.{bit}
 

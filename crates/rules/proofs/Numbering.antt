@@ -1,23 +1,20 @@
 -- The numbers that names get, and rules by number and by name.
-use mathlib.Core.Path.{_≡_, refl, sym, ap, subst, _∙_}
-use mathlib.Core.Bool.{Bool, true, false, cond, _&&_, _||_}
-use mathlib.Core.Logic.{_⊎_, inl, inr}
-use mathlib.Core.List.{List, [], _∷_, _++_, map, append-assoc}
+use mathlib.Core.Path.{_≡_, refl, sym, ap, _∙_}
+use mathlib.Core.Bool.{Bool, true, false, cond, _||_}
+use mathlib.Core.Logic.{inl, inr}
+use mathlib.Core.List.{List, [], _∷_, _++_, append-assoc}
 use Prim.Native.Nat.{ℕ, zero, suc, _+_, _<_, _≤_}
 use native.Mathlib.Nat.{add-zero}
 use native.Mathlib.Omega.{arith}
-use lib.Dec.{eqb, leb, ltb}
-use lib.ListN.{length, getD, length-append}
+use lib.ListN.{length, length-append}
 use Rattle.std.proofs.shelf.Lists.{map-append, append-nil}
-use Rattle.std.proofs.shelf.Tests.{and-parts, and-from, ltb-true, lt-ltb, le-ltb, ltb-false, cond-true, cond-false, cases-bool, cases-lt, cases-eq, both-ways}
-use Rattle.rules.specs.declared.rule.Rule.{Rule}
-use Rattle.rules.specs.Labels.{isLabel}
+use Rattle.std.proofs.shelf.Tests.{ltb-true, lt-ltb, le-ltb, ltb-false, cond-true, cond-false, cases-bool}
 use Rattle.rules.specs.Texts.{texts, sameText}
 use Rattle.rules.specs.Drafts.{Extends}
 use Rattle.std.specs.Of.String.{string-bytes}
 use Rattle.std.specs.declared.string.String.{String}
 use Rattle.std.specs.declared.alloc.Global.{Global}
-use Rattle.rules.specs.Written.{Written, indexOf, known, enter, enterRule, enterRules, namesOf, labelNo, numberRule, numberRules, rulesOf, nameAt, spellRule, spellRules, spelt, allLabels, inRange, allInRange}
+use Rattle.rules.specs.Written.{indexOf, known, enter, nameAt}
 use Rattle.rules.proofs.Texts.{same-text-is, same-text}
 
 -- ---- the index of a name

@@ -1,19 +1,19 @@
 -- The key by which rules are put in order, and that the order is a working order.
 use mathlib.Core.Path.{_≡_, refl, sym, ap, subst, _∙_}
-use mathlib.Core.Bool.{Bool, true, false, not, cond, _&&_, _||_}
+use mathlib.Core.Bool.{Bool, true, false, cond, _&&_, _||_}
 use mathlib.Core.Logic.{_⊎_, inl, inr}
 use mathlib.Core.List.{List}
-use Prim.Native.Nat.{ℕ, zero, suc, _+_, _<_, _≤_}
+use Prim.Native.Nat.{ℕ, _<_, _≤_}
 use native.Mathlib.Omega.{arith}
 use lib.Dec.{eqb, ltb}
 use lib.ListN.{length}
 use Rattle.std.specs.Orderings.{Decides}
-use Rattle.std.proofs.shelf.Tests.{and-parts, and-from, or-cases, or-left, or-right, or-from, ltb-true, lt-ltb, le-ltb, eqb-true, eq-eqb, ne-eqb, cases-bool, cases-lt, cases-eq, cases-order, both-ways, cond-true, cond-false}
+use Rattle.std.proofs.shelf.Tests.{and-parts, and-from, or-cases, or-left, or-right, or-from, ltb-true, lt-ltb, eqb-true, eq-eqb, ne-eqb, cases-bool, cases-lt, cases-eq, cases-order, both-ways, cond-true, cond-false}
 use Rattle.rules.specs.declared.rule.Rule.{Rule}
 use Rattle.terms.specs.declared.numbers.RuleNo.{RuleNo}
-use Rattle.rules.specs.Words.{ReadBy, Leads, InOneRing, OneGroup, WorkingOrder, numberAt, at}
-use Rattle.rules.specs.Keys.{tally, least, rankOf, leaderOf, earlier, placeOf}
-use Rattle.rules.proofs.Counts.{tally-le, tally-more, tally-same, tally-less, least-is, Lowest}
+use Rattle.rules.specs.Words.{Leads, OneGroup, WorkingOrder, numberAt, at}
+use Rattle.rules.specs.Keys.{rankOf, leaderOf, earlier, placeOf}
+use Rattle.rules.proofs.Counts.{tally-le, tally-same, tally-less, least-is, Lowest}
 use Rattle.rules.proofs.Paths.{leads-one, leads-more}
 use Rattle.rules.proofs.Rings.{one-ring-leads, leads-one-ring}
 

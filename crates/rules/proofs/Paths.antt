@@ -2,17 +2,17 @@
 use mathlib.Core.Path.{_≡_, refl, sym, ap, subst, _∙_}
 use mathlib.Core.Bool.{Bool, true, false, _&&_, _||_}
 use mathlib.Core.Logic.{_⊎_, inl, inr}
-use mathlib.Core.List.{List, [], _∷_, _++_, List·Memᴰ, List·Memᴰ·head, List·Memᴰ·tail, Memᴰ·append-left, Memᴰ·append-right, List·Memᴰ·not-nil}
+use mathlib.Core.List.{List, [], _∷_, _++_}
 use Prim.Native.Nat.{ℕ, zero, suc, _+_, _<_, _≤_}
 use native.Mathlib.Omega.{arith}
 use lib.Dec.{eqb, ltb}
-use lib.ListN.{length, getD}
+use lib.ListN.{length}
 use Rattle.std.proofs.shelf.Tests.{and-parts, and-from, and-right, or-cases, or-left, or-right, ltb-true, lt-ltb, eqb-true, eq-eqb, cases-bool, cases-lt, cases-eq}
 use Rattle.terms.specs.declared.numbers.LabelNo.{LabelNo}
 use Rattle.rules.specs.declared.rule.Rule.{Rule}
 use Rattle.rules.specs.Reach.{via, leadsTo}
 use Rattle.std.specs.Orderings.{Decides}
-use Rattle.rules.specs.Words.{ruleAt, Reads, ReadBy, readBy, Chain, alone, next, Leads, Ring, InRing, InOneRing, OneGroup}
+use Rattle.rules.specs.Words.{ruleAt, ReadBy, readBy, Chain, alone, next, Leads}
 
 -- ---- the test `readBy`
 

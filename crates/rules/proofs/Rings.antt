@@ -1,12 +1,11 @@
 -- Rings, by what leads to what.
-use mathlib.Core.Path.{_≡_, refl, sym, ap, subst, _∙_}
+use mathlib.Core.Path.{_≡_, refl, sym, subst}
 use mathlib.Core.Logic.{_⊎_, inl, inr}
-use mathlib.Core.List.{List, [], _∷_, _++_, List·Memᴰ, List·Memᴰ·head, List·Memᴰ·tail, Memᴰ·append-left, Memᴰ·append-right, List·Memᴰ·not-nil, List·Memᴰ·cases-cons}
+use mathlib.Core.List.{List, [], _∷_, _++_, List·Memᴰ, List·Memᴰ·head, Memᴰ·append-left, Memᴰ·append-right, List·Memᴰ·not-nil, List·Memᴰ·cases-cons}
 use Prim.Native.Nat.{ℕ, _+_, _-_, _<_}
 use native.Mathlib.Omega.{arith}
-use lib.ListN.{length}
 use Rattle.rules.specs.declared.rule.Rule.{Rule}
-use Rattle.rules.specs.Words.{ReadBy, Chain, alone, next, Leads, Ring, InRing, InOneRing, OneGroup, Barred, LowestBarred}
+use Rattle.rules.specs.Words.{ReadBy, Chain, alone, next, Leads, InRing, InOneRing, Barred, LowestBarred}
 use Rattle.rules.proofs.Paths.{chain-join, leads-one, leads-more}
 
 module _ (rules : List Rule) where

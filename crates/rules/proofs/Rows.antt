@@ -1,17 +1,16 @@
 -- Rows of sets, one of which is written.
-use mathlib.Core.Path.{_≡_, refl, sym, ap, subst, _∙_}
-use mathlib.Core.Bool.{Bool, true, false, _&&_, _||_}
-use mathlib.Core.Logic.{_⊎_, inl, inr}
-use mathlib.Core.List.{List, [], _∷_}
-use Prim.Native.Nat.{ℕ, zero, suc, _+_, _<_, _≤_}
+use mathlib.Core.Path.{_≡_, sym, ap, _∙_}
+use mathlib.Core.Bool.{Bool, true, false}
+use mathlib.Core.Logic.{inl, inr}
+use mathlib.Core.List.{List}
+use Prim.Native.Nat.{ℕ, _+_, _<_, _≤_}
 use native.Mathlib.Omega.{arith}
-use lib.Dec.{eqb, ltb}
-use lib.ListN.{length, getD, set, replicate}
-use Rattle.std.specs.shelf.Lists.{All}
+use lib.Dec.{ltb}
+use lib.ListN.{length, set, replicate}
 use Rattle.std.proofs.shelf.Lists.{getD-set-same, getD-set-other, getD-replicate, getD-past, length-replicate}
 use Rattle.std.proofs.shelf.Tests.{lt-ltb, le-ltb, cases-lt, cases-eq}
 use Rattle.rules.specs.declared.rule_set.RuleSet.{RuleSet}
-use Rattle.rules.specs.RuleSets.{bit, holds, marked}
+use Rattle.rules.specs.RuleSets.{holds, marked}
 use Rattle.rules.proofs.Marks.{bit-none}
 
 pub ltb-here : (i : ℕ) → ltb i (i + 1) ≡ true

@@ -1,11 +1,10 @@
 ghost use mathlib.Core.Path.{_≡_};
-ghost use mathlib.Core.Bool.{Bool, true, false, _&&_, _||_};
+ghost use mathlib.Core.Bool.{_&&_, _||_};
 ghost use Prim.Native.Nat.{ℕ, _<_, _≤_};
-ghost use lib.ListN.{length, getD, take};
-ghost use lib.Dec.{ltb, eqb};
+ghost use lib.ListN.{length, take};
 ghost use Rattle.std.specs.Options.{Cases as BySome};
 ghost use Rattle.std.specs.Orderings.{Decides};
-ghost use Rattle.rules.specs.RuleSets.{holds, marked};
+ghost use Rattle.rules.specs.RuleSets.{marked};
 ghost use Rattle.rules.specs.Words.{Leads, Barred, LowestBarred, WorkingOrder};
 ghost use Rattle.rules.specs.Keys.{rankOf, leaderOf, earlier, placeOf, InPlace};
 use crate::rule::Rule;

@@ -1,12 +1,10 @@
 ghost use mathlib.Core.Path.{_≡_};
-ghost use mathlib.Core.Bool.{true};
-ghost use mathlib.Core.List.{List};
 ghost use Prim.Native.Nat.{ℕ, _-_, _<_, _≤_};
 ghost use lib.ListN.{length};
 ghost use Rattle.std.specs.Options.{Cases as BySome};
-ghost use Rattle.rules.specs.Tables.{namesIn, rulesIn, orderIn, groupsIn, tabled, Closed};
+ghost use Rattle.rules.specs.Tables.{namesIn, rulesIn, orderIn, groupsIn, Closed};
 ghost use Rattle.rules.specs.Words.{ruleAt, WorkingOrder, Grouping};
-ghost use Rattle.rules.specs.Written.{nameAt, indexOf};
+ghost use Rattle.rules.specs.Written.{nameAt};
 use crate::group::Group;
 use crate::names::find_name;
 use crate::rule::Rule;

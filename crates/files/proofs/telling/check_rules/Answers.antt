@@ -1,4 +1,4 @@
-use mathlib.Core.Path.{_≡_, sym, ap, _∙_}
+use mathlib.Core.Path.{_∙_}
 use Rattle.rules.proofs.Closings.{table-closed}
 use Rattle.files.specs.Verdicts.{countsText}
 use Rattle.files.proofs.telling.check_rules.Needs as need

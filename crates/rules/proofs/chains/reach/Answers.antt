@@ -1,10 +1,9 @@
-use mathlib.Core.Path.{_≡_, refl, sym, ap, _∙_}
-use mathlib.Core.Bool.{Bool, true, false, _&&_, _||_}
-use Prim.Native.Nat.{ℕ, suc, _+_, _<_, _≤_}
+use mathlib.Core.Path.{_≡_, refl, ap, _∙_}
+use Prim.Native.Nat.{ℕ}
 use native.Mathlib.Omega.{arith}
 use native.Mathlib.Numerals.{add-one}
 use lib.ListN.{length}
-use Rattle.rules.specs.Words.{readBy, Leads}
+use Rattle.rules.specs.Words.{readBy}
 use Rattle.rules.specs.RuleSets.{marked}
 use Rattle.std.proofs.shelf.Ways.{decides-at}
 use Rattle.rules.specs.Reach.{via, leadsTo}

@@ -1,15 +1,15 @@
 use mathlib.Core.Path.{_≡_, refl, sym, ap, _∙_}
 use mathlib.Core.Bool.{Bool, true, false, _&&_, _||_}
-use mathlib.Core.Logic.{_⊎_, inl, inr}
+use mathlib.Core.Logic.{inl, inr}
 use mathlib.Core.List.{List}
-use Prim.Native.Nat.{ℕ, _+_, _<_, _≤_}
+use Prim.Native.Nat.{ℕ, _+_, _≤_}
 use native.Mathlib.Omega.{arith}
 use lib.Dec.{ltb}
-use lib.ListN.{length, set}
+use lib.ListN.{length}
 use Rattle.std.proofs.shelf.Lists.{length-set}
 use Rattle.std.proofs.shelf.Tests.{lt-ltb, le-ltb, and-left, cases-lt}
 use Rattle.rules.specs.declared.rule_set.RuleSet.{RuleSet}
-use Rattle.rules.specs.RuleSets.{holds, marked}
+use Rattle.rules.specs.RuleSets.{marked}
 use Rattle.rules.proofs.Rows.{marked-set, marked-kept, marked-past, ltb-here, ltb-there}
 use borrow.Author.Needs.{needs}
 use Rattle.rules.proofs.chains.through.Needs as need

@@ -1,4 +1,3 @@
-use mathlib.Core.Path.{_≡_}
 use Prim.Native.Nat.{_-_, _≤_}
 use Rattle.std.specs.Of.Vec.{vec-items}
 use Rattle.rules.specs.Keys.{PartsTo}

@@ -1,11 +1,11 @@
-use mathlib.Core.Path.{_≡_, refl, sym, ap, subst, _∙_}
-use mathlib.Core.Bool.{Bool, true, false, _&&_}
-use Prim.Native.Nat.{ℕ, _+_, _≤_}
+use mathlib.Core.Path.{sym}
+use mathlib.Core.Bool.{Bool, _&&_}
+use Prim.Native.Nat.{ℕ}
 use native.Mathlib.Omega.{arith}
 use Rattle.std.proofs.shelf.Tests.{and-from}
 use Rattle.rules.specs.RuleSets.{marked}
-use Rattle.rules.specs.Keys.{least, leaderOf}
-use Rattle.rules.proofs.Counts.{Lowest, least-is, lowest-one}
+use Rattle.rules.specs.Keys.{leaderOf}
+use Rattle.rules.proofs.Counts.{least-is, lowest-one}
 use Rattle.rules.proofs.orders.leader.Needs as need
 
 pub returns-then-has-2 : need.returns-then-has-2

@@ -1,4 +1,3 @@
-use Prim.Native.Nat.{ℕ, _<_}
 use mathlib.Core.Path.{_≡_}
 use Rattle.rules.specs.RuleSets.{marked}
 use Rattle.rules.specs.Keys.{tally, earlier}

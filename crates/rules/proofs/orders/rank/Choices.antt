@@ -1,4 +1,3 @@
-use Prim.Native.Nat.{ℕ, _<_}
 use mathlib.Core.Path.{_≡_}
 use mathlib.Core.Bool.{_||_}
 use lib.Dec.{eqb}

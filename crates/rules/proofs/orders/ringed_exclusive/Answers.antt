@@ -1,10 +1,6 @@
-use mathlib.Core.Path.{_≡_, refl, sym, ap, subst, _∙_}
-use mathlib.Core.Bool.{Bool, true, false}
-use Prim.Native.Nat.{ℕ, _+_, _<_, _≤_}
-use native.Mathlib.Omega.{arith}
+use mathlib.Core.Path.{sym}
 use borrow.Author.Count.{below-more}
 use Rattle.std.proofs.shelf.Tests.{both-ways}
-use Rattle.rules.specs.Words.{Barred}
 use Rattle.rules.proofs.Rings.{ring-leads, leads-ring, lowest-barred}
 use Rattle.rules.proofs.orders.ringed_exclusive.Needs as need
 use Rattle.rules.proofs.orders.ringed_exclusive.Needs.{else-is-exclusive·by·then-is-exclusive·else-has, else-is-exclusive·by·else-is-exclusive}

@@ -2,7 +2,7 @@ use mathlib.Core.Path.{_≡_, sym, ap, _∙_}
 use mathlib.Core.Bool.{true, false}
 use mathlib.Core.List.{List}
 use Prim.Native.Nat.{ℕ}
-use lib.ListN.{getD, drop}
+use lib.ListN.{getD}
 use Rattle.std.proofs.shelf.Lists.{drop-all}
 use Rattle.rules.specs.declared.relation.Relation.the-variants.{Before}
 use Rattle.rules.specs.Texts.{sameText}

@@ -1,9 +1,8 @@
-use mathlib.Core.Path.{_≡_, refl, sym, ap, subst, _∙_}
-use mathlib.Core.List.{List}
+use mathlib.Core.Path.{_≡_, sym, ap, subst}
 use Prim.Native.Nat.{ℕ, _-_}
 use native.Mathlib.Omega.{arith}
 use lib.ListN.{length, take}
-use Rattle.rules.specs.Tables.{rulesIn, orderIn}
+use Rattle.rules.specs.Tables.{rulesIn}
 use Rattle.rules.specs.Words.{WorkingOrder}
 use Rattle.rules.proofs.Closings.{table-works}
 use Rattle.rules.proofs.table.Table.order.Needs as need
