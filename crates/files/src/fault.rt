@@ -61,16 +61,16 @@ pub struct Report {
 pub impl From<FieldFault> for LineFault as LineFaultFromField {
     ghost converts = { λ fault r. r ≡ ofField fault };
 
-    fn from(fault: FieldFault) -> LineFault {
-        LineFault::Field(fault)
+    fn from(field: FieldFault) -> LineFault {
+        LineFault::Field(field)
     }
 }
 
 pub impl From<LineFault> for FileFault as FileFaultFromLine {
     ghost converts = { λ fault r. r ≡ ofLine fault };
 
-    fn from(fault: LineFault) -> FileFault {
-        FileFault::Line(fault)
+    fn from(line: LineFault) -> FileFault {
+        FileFault::Line(line)
     }
 }
 

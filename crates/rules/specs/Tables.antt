@@ -2,11 +2,12 @@
 use mathlib.Core.Path.{_≡_}
 use mathlib.Core.Bool.{true}
 use mathlib.Core.List.{List}
-use Prim.Native.Nat.{ℕ, _<_, _≤_}
+use Prim.Native.Nat.{ℕ, _-_, _<_, _≤_}
 use lib.ListN.{length, take}
 use Rattle.std.specs.Of.Vec.{vec-items}
 use Rattle.std.specs.declared.result.Result.{Result}
 use Rattle.std.specs.declared.result.Result.the-variants.{Ok, Err}
+use Rattle.terms.specs.declared.numbers.LabelNo.{LabelNo}
 use Rattle.terms.specs.declared.numbers.RuleNo.{RuleNo}
 use Rattle.rules.specs.declared.group.Group.{Group}
 use Rattle.rules.specs.declared.rule.Rule.{Rule}
@@ -15,7 +16,7 @@ use Rattle.rules.specs.declared.table.CloseFault.the-variants.{Ringed, OutOfMe
 use Rattle.rules.specs.declared.table.Table.{Table}
 use Rattle.rules.specs.Labels.{isLabel}
 use Rattle.rules.specs.Texts.{texts}
-use Rattle.rules.specs.Words.{Barred, LowestBarred, WorkingOrder, Grouping}
+use Rattle.rules.specs.Words.{ruleAt, Barred, LowestBarred, WorkingOrder, Grouping}
 use Rattle.rules.specs.Written.{Written, namesOf, rulesOf, spellRules, nameAt}
 
 -- Its labels' names and its rules, each by number; its working order and its groups.
@@ -34,6 +35,19 @@ groupsIn t = vec-items (t .groups)
 -- Its rules as they are written.
 abbrev pub tabled : Table → List Written
 tabled t = spellRules (namesIn t) (rulesIn t)
+
+-- The table has the label, by number, and its name; it has the rule, by number, and what it is.
+abbrev pub LabelIn : Table → LabelNo → Type 0
+LabelIn t label = label .0 < length (namesIn t)
+
+abbrev pub nameOf : Table → LabelNo → List ℕ
+nameOf t label = nameAt (namesIn t) (label .0)
+
+abbrev pub RuleIn : Table → RuleNo → Type 0
+RuleIn t rule = (0 < rule .0) × (rule .0 ≤ length (rulesIn t))
+
+abbrev pub ruleOf : Table → RuleNo → Rule
+ruleOf t rule = ruleAt (rulesIn t) (rule .0 - 1)
 
 -- What every table that exists keeps.
 pub record Closed (t : Table) : Type 0 where

@@ -12,6 +12,7 @@ use crate::draft::Draft;
 use crate::label::is_label;
 use crate::names::find_name;
 use crate::relation::Relation;
+use crate::rule::MOST_RULES;
 use crate::rule::Rule;
 use crate::text::same_text;
 use std::alloc::AllocError;
@@ -21,8 +22,6 @@ use terms::Refusal;
 use terms::RuleNo;
 
 const MOST_LABELS: usize = 32;
-
-const MOST_RULES: usize = 48;
 
 impl Draft {
     // No rules yet.

@@ -6,6 +6,7 @@ ghost use Rattle.std.specs.Orderings.{Decides};
 ghost use Rattle.rules.specs.Reach.{leadsTo};
 ghost use Rattle.rules.specs.RuleSets.{holds, marked};
 ghost use Rattle.rules.specs.Words.{readBy, Leads};
+use crate::rule::MOST_RULES;
 use crate::rule::Rule;
 use crate::rule_set::RuleSet;
 
@@ -35,11 +36,11 @@ fn readers(rules: &[Rule], i: usize) -> RuleSet
 }
 
 // For each rule the rules that read its label.
-fn first_steps(rules: &[Rule]) -> [RuleSet; 48]
+fn first_steps(rules: &[Rule]) -> [RuleSet; MOST_RULES]
     requires { ⌜ length (now rules) ≤ 48 ⌝ }
     ensures { λ r. ⌜ ((i j : ℕ) → marked r i j ≡ readBy (now (rules .entry)) i j) ⌝ }
 {
-    let mut rows = [RuleSet::none(); 48];
+    let mut rows = [RuleSet::none(); MOST_RULES];
     for i in 0..rules.len() {
         rows[i] = readers(rules, i);
     }
@@ -47,13 +48,13 @@ fn first_steps(rules: &[Rule]) -> [RuleSet; 48]
 }
 
 // What is reached with the rule `k` as one more stop on the way.
-fn through(rows: [RuleSet; 48], k: usize) -> [RuleSet; 48]
+fn through(rows: [RuleSet; MOST_RULES], k: usize) -> [RuleSet; MOST_RULES]
     requires { ⌜ k < 48 ⌝ }
     ensures { λ r. ⌜ ((i j : ℕ) → marked r i j ≡ (marked rows i j || (marked rows i k && marked rows k j))) ⌝ }
 {
     let by = rows[k];
     let mut wider = rows;
-    for i in 0..48 {
+    for i in 0..MOST_RULES {
         if rows[i].has(k) {
             wider[i] = rows[i].join(by);
         }
@@ -62,7 +63,7 @@ fn through(rows: [RuleSet; 48], k: usize) -> [RuleSet; 48]
 }
 
 // For each rule the rules that it leads to: some chain of rules begins with it, and its last label is read by them.
-pub(crate) fn reach(rules: &[Rule]) -> [RuleSet; 48]
+pub(crate) fn reach(rules: &[Rule]) -> [RuleSet; MOST_RULES]
     requires { ⌜ length (now rules) ≤ 48 ⌝ }
     ensures says { λ r. ⌜ ((i j : ℕ) → Decides (marked r i j) (Leads (now (rules .entry)) i j)) ⌝ }
     ensures found { λ r. ⌜ ((i j : ℕ) → marked r i j ≡ leadsTo (now (rules .entry)) i j) ⌝ }

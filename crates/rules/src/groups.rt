@@ -7,13 +7,14 @@ ghost use Rattle.rules.specs.Keys.{oneGroup, InPlace, PartsTo};
 ghost use Rattle.rules.specs.RuleSets.{marked};
 ghost use Rattle.rules.specs.Words.{numberAt, at};
 use crate::group::Group;
+use crate::rule::MOST_RULES;
 use crate::rule_set::RuleSet;
 use std::alloc::AllocError;
 use std::alloc::Global;
 use terms::RuleNo;
 
 // Whether two rules lead to each other or are the same.
-fn same_group(rows: &[RuleSet; 48], i: usize, j: usize) -> bool
+fn same_group(rows: &[RuleSet; MOST_RULES], i: usize, j: usize) -> bool
     requires { ⌜ i < 48 ⌝ }
     requires { ⌜ j < 48 ⌝ }
     ensures { λ r. ⌜ r ≡ oneGroup (marked (now (rows .entry))) i j ⌝ }
@@ -22,7 +23,7 @@ fn same_group(rows: &[RuleSet; 48], i: usize, j: usize) -> bool
 }
 
 // The index of the rule at a place of the order.
-fn rule_at(order: &[RuleNo; 48], p: usize) -> usize
+fn rule_at(order: &[RuleNo; MOST_RULES], p: usize) -> usize
     requires { ⌜ p < 48 ⌝ }
     requires { ⌜ 0 < numberAt (now order) p ⌝ }
     ensures { λ r. ⌜ r ≡ at (now (order .entry)) p ⌝ }
@@ -31,7 +32,12 @@ fn rule_at(order: &[RuleNo; 48], p: usize) -> usize
 }
 
 // The place after the last rule of the group that stands at the place `p`.
-fn group_end(rows: &[RuleSet; 48], order: &[RuleNo; 48], n: usize, p: usize) -> usize
+fn group_end(
+    rows: &[RuleSet; MOST_RULES],
+    order: &[RuleNo; MOST_RULES],
+    n: usize,
+    p: usize,
+) -> usize
     requires few { ⌜ n ≤ 48 ⌝ }
     requires placed { ⌜ InPlace (marked (now rows)) n (now order) ⌝ }
     requires within { ⌜ p < n ⌝ }
@@ -52,8 +58,8 @@ fn group_end(rows: &[RuleSet; 48], order: &[RuleNo; 48], n: usize, p: usize) -> 
 // The groups of an order of `n` rules.
 pub(crate) fn part_groups(
     heap: Global,
-    rows: &[RuleSet; 48],
-    order: &[RuleNo; 48],
+    rows: &[RuleSet; MOST_RULES],
+    order: &[RuleNo; MOST_RULES],
     n: usize,
 ) -> Result<Vec<Group>, AllocError>
     requires few { ⌜ n ≤ 48 ⌝ }

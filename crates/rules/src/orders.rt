@@ -7,12 +7,13 @@ ghost use Rattle.std.specs.Orderings.{Decides};
 ghost use Rattle.rules.specs.RuleSets.{marked};
 ghost use Rattle.rules.specs.Words.{Leads, Barred, LowestBarred, WorkingOrder};
 ghost use Rattle.rules.specs.Keys.{rankOf, leaderOf, earlier, placeOf, InPlace};
+use crate::rule::MOST_RULES;
 use crate::rule::Rule;
 use crate::rule_set::RuleSet;
 use terms::RuleNo;
 
 // The lowest exclusive rule that is in a ring.
-pub(crate) fn ringed_exclusive(rules: &[Rule], rows: &[RuleSet; 48]) -> Option<RuleNo>
+pub(crate) fn ringed_exclusive(rules: &[Rule], rows: &[RuleSet; MOST_RULES]) -> Option<RuleNo>
     requires { ⌜ length (now rules) ≤ 48 ⌝ }
     requires { ⌜ ((i j : ℕ) → Decides (marked (now rows) i j) (Leads (now rules) i j)) ⌝ }
     ensures { λ r. ⌜ BySome r ((i : ℕ) → Barred (now (rules .entry)) i → ⊥) (λ no. LowestBarred (now (rules .entry)) no) ⌝ }
@@ -26,7 +27,7 @@ pub(crate) fn ringed_exclusive(rules: &[Rule], rows: &[RuleSet; 48]) -> Option<R
 }
 
 // How many of the first `n` rules are `i` or lead to `i`.
-fn rank(rows: &[RuleSet; 48], n: usize, i: usize) -> usize
+fn rank(rows: &[RuleSet; MOST_RULES], n: usize, i: usize) -> usize
     requires { ⌜ n ≤ 48 ⌝ }
     requires { ⌜ i < 48 ⌝ }
     ensures { λ r. ⌜ r ≡ rankOf (marked (now (rows .entry))) n i ⌝ }
@@ -41,7 +42,7 @@ fn rank(rows: &[RuleSet; 48], n: usize, i: usize) -> usize
 }
 
 // The lowest rule of the group of `i`.
-fn leader(rows: &[RuleSet; 48], i: usize) -> usize
+fn leader(rows: &[RuleSet; MOST_RULES], i: usize) -> usize
     requires { ⌜ i < 48 ⌝ }
     ensures { λ r. ⌜ r ≡ leaderOf (marked (now (rows .entry))) i ⌝ }
 {
@@ -54,7 +55,7 @@ fn leader(rows: &[RuleSet; 48], i: usize) -> usize
 }
 
 // Whether `i` stands before `j`: by rank, then by the lowest rule of the group, then by number.
-fn is_earlier(rows: &[RuleSet; 48], n: usize, i: usize, j: usize) -> bool
+fn is_earlier(rows: &[RuleSet; MOST_RULES], n: usize, i: usize, j: usize) -> bool
     requires { ⌜ n ≤ 48 ⌝ }
     requires { ⌜ i < 48 ⌝ }
     requires { ⌜ j < 48 ⌝ }
@@ -74,7 +75,7 @@ fn is_earlier(rows: &[RuleSet; 48], n: usize, i: usize, j: usize) -> bool
 }
 
 // How many of the first `n` rules stand before `i`.
-fn place(rows: &[RuleSet; 48], n: usize, i: usize) -> usize
+fn place(rows: &[RuleSet; MOST_RULES], n: usize, i: usize) -> usize
     requires { ⌜ n ≤ 48 ⌝ }
     requires { ⌜ i < n ⌝ }
     ensures { λ r. ⌜ r ≡ placeOf (marked (now (rows .entry))) n i ⌝ }
@@ -89,7 +90,7 @@ fn place(rows: &[RuleSet; 48], n: usize, i: usize) -> usize
 }
 
 // The rules in a working order, in the first places.
-pub(crate) fn working_order(rules: &[Rule], rows: &[RuleSet; 48]) -> [RuleNo; 48]
+pub(crate) fn working_order(rules: &[Rule], rows: &[RuleSet; MOST_RULES]) -> [RuleNo; MOST_RULES]
     requires { ⌜ length (now rules) ≤ 48 ⌝ }
     requires { ⌜ ((i j : ℕ) → Decides (marked (now rows) i j) (Leads (now rules) i j)) ⌝ }
     ensures works { λ r. ⌜ WorkingOrder (now (rules .entry)) (take (length (now (rules .entry))) r) ⌝ }
@@ -97,7 +98,7 @@ pub(crate) fn working_order(rules: &[Rule], rows: &[RuleSet; 48]) -> [RuleNo; 48
     ensures placed { λ r. ⌜ InPlace (marked (now (rows .entry))) (length (now (rules .entry))) r ⌝ }
 {
     let n = rules.len();
-    let mut order = [RuleNo(0); 48];
+    let mut order = [RuleNo(0); MOST_RULES];
     for i in 0..n {
         let p = place(rows, n, i);
         order[p] = RuleNo(i as u8 + 1);

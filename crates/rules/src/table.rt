@@ -9,6 +9,7 @@ ghost use Rattle.rules.specs.Texts.{texts};
 ghost use Rattle.rules.specs.Words.{Barred};
 ghost use Rattle.rules.specs.Written.{namesOf, spellRules, allLabels, allInRange};
 use crate::group::Group;
+use crate::rule::MOST_RULES;
 use crate::rule::Rule;
 use terms::RuleNo;
 
@@ -18,7 +19,7 @@ use terms::RuleNo;
 pub struct Table {
     pub(crate) names: Vec<String>,
     pub(crate) rules: Vec<Rule>,
-    pub(crate) order: [RuleNo; 48],
+    pub(crate) order: [RuleNo; MOST_RULES],
     pub(crate) groups: Vec<Group>,
     ghost few: { length (vec-items rules) ≤ 48 },
     ghost fewnames: { length (texts (vec-items names)) ≤ 32 },

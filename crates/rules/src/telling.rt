@@ -1,10 +1,9 @@
 ghost use mathlib.Core.Path.{_≡_};
-ghost use Prim.Native.Nat.{ℕ, _-_, _<_, _≤_};
+ghost use Prim.Native.Nat.{_-_, _<_};
 ghost use lib.ListN.{length};
 ghost use Rattle.std.specs.Options.{Cases as BySome};
-ghost use Rattle.rules.specs.Tables.{namesIn, rulesIn, orderIn, groupsIn, Closed};
-ghost use Rattle.rules.specs.Words.{ruleAt, WorkingOrder, Grouping};
-ghost use Rattle.rules.specs.Written.{nameAt};
+ghost use Rattle.rules.specs.Tables.{namesIn, rulesIn, orderIn, groupsIn, LabelIn, nameOf, RuleIn, ruleOf, Closed};
+ghost use Rattle.rules.specs.Words.{WorkingOrder, Grouping};
 use crate::group::Group;
 use crate::names::find_name;
 use crate::rule::Rule;
@@ -36,7 +35,7 @@ impl Table {
 
     // A label's name, if there is such a label.
     pub fn label_name(&self, label: LabelNo) -> Option<&str>
-        ensures { λ r. ⌜ BySome r (length (namesIn (now (self .entry))) ≤ label .0) (λ name. (label .0 < length (namesIn (now (self .entry)))) × (now name ≡ nameAt (namesIn (now (self .entry))) (label .0))) ⌝ }
+        ensures { λ r. ⌜ BySome r (LabelIn (now (self .entry)) label → ⊥) (λ name. LabelIn (now (self .entry)) label × (now name ≡ nameOf (now (self .entry)) label)) ⌝ }
     {
         match self.names.get(label.0 as usize) {
             Some(name) => Some(name.as_str()),
@@ -46,7 +45,7 @@ impl Table {
 
     // The label that has the name, if one has.
     pub fn label_no(&self, name: &[u8]) -> Option<LabelNo>
-        ensures { λ r. ⌜ BySome r ((k : ℕ) → k < length (namesIn (now (self .entry))) → nameAt (namesIn (now (self .entry))) k ≡ now (name .entry) → ⊥) (λ label. (label .0 < length (namesIn (now (self .entry)))) × (nameAt (namesIn (now (self .entry))) (label .0) ≡ now (name .entry))) ⌝ }
+        ensures { λ r. ⌜ BySome r ((label : LabelNo) → LabelIn (now (self .entry)) label → nameOf (now (self .entry)) label ≡ now (name .entry) → ⊥) (λ label. LabelIn (now (self .entry)) label × (nameOf (now (self .entry)) label ≡ now (name .entry))) ⌝ }
     {
         match find_name(&self.names, name) {
             Some(i) => Some(LabelNo(i as u8)),
@@ -56,7 +55,7 @@ impl Table {
 
     // The rule that has the number, if one has.
     pub fn rule(&self, rule: RuleNo) -> Option<Rule>
-        ensures { λ r. ⌜ BySome r ((0 < rule .0 → length (rulesIn (now (self .entry))) < rule .0)) (λ x. (0 < rule .0) × (rule .0 ≤ length (rulesIn (now (self .entry)))) × (x ≡ ruleAt (rulesIn (now (self .entry))) (rule .0 - 1))) ⌝ }
+        ensures { λ r. ⌜ BySome r (RuleIn (now (self .entry)) rule → ⊥) (λ x. RuleIn (now (self .entry)) rule × (x ≡ ruleOf (now (self .entry)) rule)) ⌝ }
     {
         if rule.0 == 0 || rule.0 as usize > self.rules.len() {
             return None;

@@ -27,4 +27,4 @@ returns-in-None c =
     let n = length-map (vec-items (c .args .self .now .names)) string-bytes in
     let m = ap length (c .deref .ensures .value) in
     let g = ltb-false (c .args .label .0) (length (c .deref .result .now)) (sym (c .in-None .ensures tt .finds .0)) in
-    omega arith
+    λ h. omega arith

@@ -22,7 +22,7 @@ returns-in-Some c =
 pub returns-in-None : need.returns-in-None
 returns-in-None c =
     let f = subst (λ (ns : List (String Global)). indexOf (texts ns) (c .args .name .now) ≡ length (texts ns)) (c .deref .ensures .value) (c .in-None .ensures tt) in
-    λ k l e.
-    let d = kept-different (namesIn (c .args .self .now)) (rulesIn (c .args .self .now)) (table-kept (c .args .self .now)) k l in
+    λ label l e.
+    let d = kept-different (namesIn (c .args .self .now)) (rulesIn (c .args .self .now)) (table-kept (c .args .self .now)) (label .0) l in
     let g = ap (indexOf (namesIn (c .args .self .now))) e in
     omega arith
