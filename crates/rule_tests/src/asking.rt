@@ -6,7 +6,7 @@ use std::test::*;
 #[derive(Clone, Copy, PartialEq, Eq, Debug)]
 pub struct Answer(pub u8, pub usize, pub usize);
 
-pub fn ask(heap: Global, bytes: &[u8]) -> Result<Answer, Fail> {
+pub(crate) fn ask(heap: Global, bytes: &[u8]) -> Result<Answer, Fail> {
     match read_rules(heap, bytes) {
         Ok(table) => Ok(Answer(0, table.rule_count(), table.label_count())),
         Err(fault) => match fault.report() {

@@ -9,10 +9,12 @@ use Rattle.std.specs.Of.Vec.{vec-items}
 use Rattle.std.specs.declared.string.String.{String}
 use Rattle.std.specs.declared.alloc.Global.{Global}
 use Rattle.std.specs.declared.result.Result.the-variants.{Ok}
+use Rattle.std.proofs.shelf.Tests.{and-from}
 use Rattle.std.proofs.shelf.Lists.{take-at, length-map}
 use Rattle.terms.specs.declared.numbers.RuleNo.{RuleNo}
 use Rattle.rules.specs.declared.draft.Draft.{Draft}
 use Rattle.rules.specs.declared.rule.Rule.{Rule}
+use Rattle.rules.specs.Labels.{isLabel}
 use Rattle.rules.specs.Texts.{texts}
 use Rattle.rules.specs.Drafts.{Added, Wrote, Extends}
 use Rattle.rules.specs.Written.{Written, enter, enterRule, numberRule, spellRule, spellRules, spelt}
@@ -20,6 +22,12 @@ use Rattle.rules.proofs.Keeping.{Kept, kept-more, written-more, accepts}
 
 pub draft-kept : (d : Draft) → Kept (texts (vec-items (d .names))) (vec-items (d .rules))
 draft-kept d = record { few = d .few; fewnames = d .fewnames; spelt = d .spelt; within = d .within; appear = d .appear }
+
+-- The names of a rule are labels, told of equal texts.
+pub spelt-by : (w : Written) (a b c : List ℕ) → a ≡ w .label → b ≡ w .first → c ≡ w .second → true ≡ isLabel a → true ≡ isLabel b → true ≡ isLabel c → spelt w ≡ true
+spelt-by w a b c x y z l m n =
+    and-from (isLabel (w .label)) _ (ap isLabel (sym x) ∙ sym l)
+    (and-from (isLabel (w .first)) (isLabel (w .second)) (ap isLabel (sym y) ∙ sym m) (ap isLabel (sym z) ∙ sym n))
 
 -- How many names a rule brings, told of equal lists and texts.
 pub brought : (names slice : List (String Global)) (a b c : List ℕ) (w : Written) (n : ℕ) → slice ≡ names → a ≡ w .label → b ≡ w .first → c ≡ w .second
