@@ -20,7 +20,7 @@ use Rattle.rules.specs.declared.rule.Rule.{Rule}
 use Rattle.rules.specs.declared.table.Table.{Table}
 use Rattle.rules.specs.Labels.{isLabel}
 use Rattle.rules.specs.Tables.{namesIn, rulesIn, tabled}
-use Rattle.rules.specs.Words.{Barred}
+use Rattle.rules.specs.Words.{Barred, Free}
 use Rattle.rules.specs.Written.{Written, namesOf, rulesOf, nameAt, spellRule, spellRules, spelt, inRange, allInRange}
 use Rattle.rules.proofs.Keeping.{range-parts}
 use Rattle.rules.proofs.Closings.{table-kept, table-closed}
@@ -33,7 +33,7 @@ use Rattle.files.specs.Faults.{fileTold, lineTold}
 use Rattle.files.specs.RuleFiles.{rules, fault, eachOnce, partsOutcome, fileOutcome, lineEnd, mostBytes}
 use Rattle.files.specs.Parts.{split}
 use Rattle.files.specs.RuleTexts.{TextOf, Limited, allSpelt, ruleText}
-use Rattle.files.specs.RuleLaws.{Free, AcceptsTexts, SameTable, ReadsBack}
+use Rattle.files.specs.RuleLaws.{AcceptsTexts, SameTable, ReadsBack}
 use Rattle.files.proofs.Lines.{fault-rules}
 use Rattle.files.proofs.WholeFiles.{says-its-text, texts-are-short}
 
@@ -42,7 +42,7 @@ same-rules ws vs e = cc
 
 -- ---- accepted exactly when it is a text
 
-table-free : (t : Table) → Free (tabled t)
+table-free : (t : Table) → Free (rulesOf (tabled t))
 table-free t = subst (λ (rs : List Rule). (i : ℕ) → Barred rs i → ⊥) (table-closed t .rules) (table-closed t .free)
 
 -- A file that says a fault is no text.
@@ -54,7 +54,7 @@ lines-no-text bytes None short s h ws t = false≢true s
 lines-no-text bytes (Some r) short s h ws t =
     fault-no-text bytes (r .refusal) (r .line) (r .column) (cond-false (ltb mostBytes (length bytes)) _ _ (le-ltb mostBytes (length bytes) short) ∙ h) ws t
 
-refused-no-text : (bytes : List ℕ) (what : FileFault) → Refuses bytes what → isSome (fileTold what) ≡ true → (ws : List Written) → TextOf bytes ws → Free ws → ⊥
+refused-no-text : (bytes : List ℕ) (what : FileFault) → Refuses bytes what → isSome (fileTold what) ≡ true → (ws : List Written) → TextOf bytes ws → Free (rulesOf ws) → ⊥
 refused-no-text bytes Overlong h s ws t free = fault-no-text bytes refusal.Overfull 0 0 h ws t
 refused-no-text bytes Headless h s ws t free = fault-no-text bytes refusal.Headless 1 0 h ws t
 refused-no-text bytes (Line f) h s ws t free = lines-no-text bytes (lineTold f) (h .0) s (h .1) ws t

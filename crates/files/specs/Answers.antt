@@ -17,7 +17,7 @@ use Rattle.terms.specs.declared.numbers.RuleNo.{RuleNo}
 use Rattle.rules.specs.Written.{Written, spelt, roomFor, rulesOf}
 use Rattle.rules.specs.declared.table.Table.{Table}
 use Rattle.rules.specs.Tables.{tabled}
-use Rattle.rules.specs.Words.{Barred, LowestBarred}
+use Rattle.rules.specs.Words.{Free, LowestBarred}
 use Rattle.files.specs.declared.parts.Part.{Part}
 use Rattle.files.specs.declared.parts.Lines.{Lines}
 use Rattle.files.specs.declared.cells.Cells.{Cells}
@@ -68,7 +68,7 @@ abbrev pub GoesOn : {T : Type 0} → List Written → Outcome → List Written �
 GoesOn ws outcome more (Ok x) = outcome ≡ rules more
 GoesOn ws outcome more (Err what) = Told ws outcome (lineTold what)
 
--- The first lines, up to one, say rules, of which the last is the one for which there was no memory.
+-- The first lines, up to one, say rules, one at least.
 pub record Fronted (says : List (List ℕ) → Outcome) (parts : List (List ℕ)) : Type 0 where
   pub front : List (List ℕ)
   pub back : List (List ℕ)
@@ -119,7 +119,7 @@ Refuses bytes (Line what) = (length bytes ≤ mostBytes) × ToldOf partsOutcome 
 -- the file says rules, of which the one in that line is the lowest exclusive rule in a ring; the line of rule 1 is 2
 Refuses bytes (Ringed line) = (ws : List Written) × (who : RuleNo) × (fileOutcome bytes ≡ rules ws) × LowestBarred (rulesOf ws) who × (line ≡ who .0 + 1)
 -- no memory for the table of the rules that the file says, of which no exclusive one is in a ring
-Refuses bytes OutOfMemory = (ws : List Written) × (fileOutcome bytes ≡ rules ws) × ((i : ℕ) → Barred (rulesOf ws) i → ⊥)
+Refuses bytes OutOfMemory = (ws : List Written) × (fileOutcome bytes ≡ rules ws) × Free (rulesOf ws)
 
 -- A table is of the rules that the file says.
 abbrev pub Answers : List ℕ → Result Table FileFault → Type 0

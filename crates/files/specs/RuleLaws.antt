@@ -8,7 +8,7 @@ use Rattle.std.specs.declared.result.Result.{Result}
 use Rattle.std.specs.declared.result.Result.the-variants.{Ok, Err}
 use Rattle.rules.specs.declared.table.Table.{Table}
 use Rattle.rules.specs.Tables.{namesIn, rulesIn, tabled}
-use Rattle.rules.specs.Words.{Barred}
+use Rattle.rules.specs.Words.{Free}
 use Rattle.rules.specs.Written.{Written, rulesOf}
 use Rattle.files.specs.declared.columns.RuleColumn.{RuleColumn}
 use Rattle.files.specs.declared.fault.FileFault.{FileFault}
@@ -16,15 +16,11 @@ use Rattle.files.specs.Faults.{fileTold}
 use Rattle.files.specs.RuleFiles.{eachOnce}
 use Rattle.files.specs.RuleTexts.{TextOf, ruleText}
 
--- No exclusive rule is in a ring.
-abbrev pub Free : List Written → Type 0
-Free ws = (i : ℕ) → Barred (rulesOf ws) i → ⊥
-
 -- A file is accepted exactly when it is the text, under some order of the columns, of a list of rules that keeps the limits and has no
 -- exclusive rule in a ring; the table is of those rules. (A refusal is what has a report: want of memory has none.)
 abbrev pub AcceptsTexts : List ℕ → Result Table FileFault → Type 0
-AcceptsTexts bytes (Ok table) = TextOf bytes (tabled table) × Free (tabled table)
-AcceptsTexts bytes (Err what) = isSome (fileTold what) ≡ true → (ws : List Written) → TextOf bytes ws → Free ws → ⊥
+AcceptsTexts bytes (Ok table) = TextOf bytes (tabled table) × Free (rulesOf (tabled table))
+AcceptsTexts bytes (Err what) = isSome (fileTold what) ≡ true → (ws : List Written) → TextOf bytes ws → Free (rulesOf ws) → ⊥
 
 -- The same names and rules, each by number.
 abbrev pub SameTable : Table → Result Table FileFault → Type 0

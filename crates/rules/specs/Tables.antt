@@ -16,7 +16,7 @@ use Rattle.rules.specs.declared.table.CloseFault.the-variants.{Ringed, OutOfMe
 use Rattle.rules.specs.declared.table.Table.{Table}
 use Rattle.rules.specs.Labels.{isLabel}
 use Rattle.rules.specs.Texts.{texts}
-use Rattle.rules.specs.Words.{ruleAt, Barred, LowestBarred, WorkingOrder, Grouping}
+use Rattle.rules.specs.Words.{ruleAt, Free, LowestBarred, WorkingOrder, Grouping}
 use Rattle.rules.specs.Written.{Written, namesOf, rulesOf, spellRules, nameAt}
 
 -- Its labels' names and its rules, each by number; its working order and its groups.
@@ -60,12 +60,12 @@ pub record Closed (t : Table) : Type 0 where
   pub names : namesIn t ≡ namesOf (tabled t)
   pub rules : rulesIn t ≡ rulesOf (tabled t)
   -- no exclusive rule is in a ring
-  pub free : (i : ℕ) → Barred (rulesIn t) i → ⊥
+  pub free : Free (rulesIn t)
   pub working : WorkingOrder (rulesIn t) (orderIn t)
   pub grouping : Grouping (rulesIn t) (orderIn t) (groupsIn t)
 
 -- Rules make a table exactly if no exclusive rule is in a ring and there is memory. Want of memory hides no ring.
 abbrev pub Closes : List Written → Result Table CloseFault → Type 0
-Closes ws (Ok t) = (tabled t ≡ ws) × ((i : ℕ) → Barred (rulesOf ws) i → ⊥)
+Closes ws (Ok t) = (tabled t ≡ ws) × Free (rulesOf ws)
 Closes ws (Err (Ringed lowest)) = LowestBarred (rulesOf ws) lowest
-Closes ws (Err OutOfMemory) = (i : ℕ) → Barred (rulesOf ws) i → ⊥
+Closes ws (Err OutOfMemory) = Free (rulesOf ws)

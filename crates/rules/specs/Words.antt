@@ -90,6 +90,10 @@ module _ (rules : List Rule) where
     pub kept : exclusive (ruleAt rules i .how) ≡ true
     pub ringed : InRing i
 
+  -- No exclusive rule is in a ring.
+  abbrev pub Free : Type 0
+  Free = (i : ℕ) → Barred i → ⊥
+
   -- The number of the lowest exclusive rule in a ring.
   pub record LowestBarred (no : RuleNo) : Type 0 where
     pub numbered : 0 < no .0

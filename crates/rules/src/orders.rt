@@ -5,7 +5,7 @@ ghost use lib.ListN.{length, take};
 ghost use Rattle.std.specs.Options.{Cases as BySome};
 ghost use Rattle.std.specs.Orderings.{Decides};
 ghost use Rattle.rules.specs.RuleSets.{marked};
-ghost use Rattle.rules.specs.Words.{Leads, Barred, LowestBarred, WorkingOrder};
+ghost use Rattle.rules.specs.Words.{Leads, Free, LowestBarred, WorkingOrder};
 ghost use Rattle.rules.specs.Keys.{rankOf, leaderOf, earlier, placeOf, InPlace};
 use crate::rule::MOST_RULES;
 use crate::rule::Rule;
@@ -16,7 +16,7 @@ use terms::RuleNo;
 pub(crate) fn ringed_exclusive(rules: &[Rule], rows: &[RuleSet; MOST_RULES]) -> Option<RuleNo>
     requires { ⌜ length (now rules) ≤ 48 ⌝ }
     requires { ⌜ ((i j : ℕ) → Decides (marked (now rows) i j) (Leads (now rules) i j)) ⌝ }
-    ensures { λ r. ⌜ BySome r ((i : ℕ) → Barred (now (rules .entry)) i → ⊥) (λ no. LowestBarred (now (rules .entry)) no) ⌝ }
+    ensures { λ r. ⌜ BySome r (Free (now (rules .entry))) (λ no. LowestBarred (now (rules .entry)) no) ⌝ }
 {
     for i in 0..rules.len() {
         if rules[i].how.is_exclusive() && rows[i].has(i) {

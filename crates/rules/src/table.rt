@@ -1,12 +1,12 @@
 ghost use mathlib.Core.Path.{_≡_};
 ghost use mathlib.Core.Bool.{true};
-ghost use Prim.Native.Nat.{ℕ, _≤_};
+ghost use Prim.Native.Nat.{_≤_};
 ghost use lib.ListN.{length};
 ghost use Rattle.std.specs.Of.Vec.{vec-items};
 ghost use Rattle.rules.specs.Keys.{InPlace, SizedParts, InsideParts, OutsideParts, RingedParts, FirstPart, NextParts, LastPart, NoPart};
 ghost use Rattle.rules.specs.Reach.{leadsTo};
 ghost use Rattle.rules.specs.Texts.{texts};
-ghost use Rattle.rules.specs.Words.{Barred};
+ghost use Rattle.rules.specs.Words.{Free};
 ghost use Rattle.rules.specs.Written.{namesOf, spellRules, allLabels, allInRange};
 use crate::group::Group;
 use crate::rule::MOST_RULES;
@@ -26,7 +26,7 @@ pub struct Table {
     ghost spelt: { allLabels (texts (vec-items names)) ≡ true },
     ghost within: { allInRange (length (texts (vec-items names))) (vec-items rules) ≡ true },
     ghost appear: { namesOf (spellRules (texts (vec-items names)) (vec-items rules)) ≡ texts (vec-items names) },
-    ghost free: { ((i : ℕ) → Barred (vec-items rules) i → ⊥) },
+    ghost free: { Free (vec-items rules) },
     ghost long: { length order ≡ 48 },
     ghost placed: { InPlace (leadsTo (vec-items rules)) (length (vec-items rules)) order },
     ghost sized: { SizedParts (length (vec-items rules)) (vec-items groups) },
