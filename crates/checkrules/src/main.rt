@@ -1,4 +1,6 @@
 // Reads `rules.txt` in the folder it is run in, and says whether the rule file stands or which line and column is at fault.
+#![tactic(auto)]
+
 use anyhow::anyhow;
 use files::check_rules;
 use std::fs;

@@ -1,4 +1,6 @@
 // Files of rules: their lines and fields, their faults, and what they say.
+#![tactic(auto)]
+
 mod cells;
 mod columns;
 mod fault;

@@ -1,4 +1,6 @@
 // Days and sheet stamps on examples. The expected answers come from the rules of the two kinds, worked out by hand.
+#![tactic(auto)]
+
 #[cfg(test)]
 mod days;
 #[cfg(test)]

@@ -1,4 +1,6 @@
 // Moments: kinds of value with an order, a range and a text, of which days and sheet stamps are two; and rows of anything ordered.
+#![tactic(auto)]
+
 mod day;
 mod digits;
 mod moment;

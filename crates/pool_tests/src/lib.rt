@@ -1,4 +1,6 @@
 // Rows and pools on examples. The expected answers come from docs/POOLS.md, read by hand, or from a set of the standard library.
+#![tactic(auto)]
+
 #[cfg(test)]
 mod asking;
 #[cfg(test)]

@@ -1,4 +1,6 @@
 // Pools: sets of periods from place to place, in a make that the user chooses.
+#![tactic(auto)]
+
 mod bits;
 mod grid;
 mod grid_pool;

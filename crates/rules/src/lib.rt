@@ -1,4 +1,6 @@
 // Rule tables: rules between labels, and their closing into a table whose groups stand in a working order.
+#![tactic(auto)]
+
 mod building;
 mod chains;
 mod closing;

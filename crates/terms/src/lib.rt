@@ -1,4 +1,6 @@
 // The vocabulary that every other crate shares: numbers that are never taken for one another, and the refusals.
+#![tactic(auto)]
+
 mod numbers;
 mod refusal;
 
