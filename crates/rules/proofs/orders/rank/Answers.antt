@@ -6,8 +6,8 @@ use Rattle.rules.proofs.Counts.{tally_le, tally_plus, tally_stay}
 use Rattle.rules.proofs.orders.rank.Goals as goal
 use Rattle.rules.proofs.orders.rank.Goals.{then-m-i, then-m-i-via-then-m-i, then-m-i-via-else-m-i+then-has, else-m-i+else-has}
 
-pub overflow-add-count : goal.overflow-add-count
-overflow-add-count c =
+pub overflow_add-count : goal.overflow_add-count
+overflow_add-count c =
     let p : ℕ → Bool = λ k. eqb k c.args.i || marked c.args.rows.now k c.args.i in
     let e : c.loop-m.count ≡ tally p c.loop-m.m = c.loop-m.invariant in
     omega (arith, tally_le p c.loop-m.m)

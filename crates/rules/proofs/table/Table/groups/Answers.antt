@@ -9,7 +9,7 @@ pub returns : goal.returns
 returns c =
     let k = table_closed c.args.self.now in
     record {
-      value = c.as-slice.ensures.value;
-      parts = subst (λ (gs : List Group). Grouping (rules_in c.args.self.now) (order_in c.args.self.now) gs) (sym c.as-slice.ensures.value) k.grouping;
+      value = c.as_slice.ensures.value;
+      parts = subst (λ (gs : List Group). Grouping (rules_in c.args.self.now) (order_in c.args.self.now) gs) (sym c.as_slice.ensures.value) k.grouping;
       closed = k;
     }
