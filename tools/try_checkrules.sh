@@ -3,7 +3,7 @@
 # The program has to be built: ./checkrules.sh examples-data/hut does that.
 set -u
 top=$(cd "$(dirname "$0")/.." && pwd)
-program=$top/target/bin/checkrules
+program=$top/crates/checkrules/out/checkrules
 work=$(mktemp -d)
 trap 'rm -rf "$work"' EXIT
 wrong=0

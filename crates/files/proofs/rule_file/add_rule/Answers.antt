@@ -8,5 +8,5 @@ use Rattle.files.proofs.rule_file.add_rule.Goals as goal
 
 pub returns-in-Err : goal.returns-in-Err
 returns-in-Err c =
-    subst (λ (f : LineFault). Told (drafted c.args.draft.now) (add_outcome c.args.line (drafted c.args.draft.now) (said_by c.args.words)) (line_told f)) (sym c.unadded-in.ensures)
+    subst (λ (f : LineFault). Told (drafted c.args.draft.now) (add_outcome c.args.line (drafted c.args.draft.now) (said_by c.args.words)) (line_told f)) (sym c.unadded_in.ensures)
     (add_told c.args.line (drafted c.args.draft.now) (drafted c.add.new.self) (said_by c.args.words) c.in-Err.why c.requires c.in-Err.ensures)

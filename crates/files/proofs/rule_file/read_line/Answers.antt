@@ -5,7 +5,7 @@ use Rattle.files.proofs.rule_file.read_line.Goals as goal
 
 pub returns : goal.returns
 returns c =
-    goes_on_by (drafted c.args.draft.now) _ (add_outcome c.args.line.number (drafted c.args.draft.now) (said_by c.in-ok-words.words)) (drafted c.add-rule.new.draft) c.add-rule.result
-    (line_adds c.args.order c.in-ok-cells.cells c.in-ok-words.words c.args.line.number (drafted c.args.draft.now)
-    c.args.line.ended c.args.line.rest.now c.if-not-line.false c.in-ok-cells.ensures.fields c.in-ok-words.ensures)
-    c.add-rule.ensures
+    goes_on_by (drafted c.args.draft.now) _ (add_outcome c.args.line.number (drafted c.args.draft.now) (said_by c.in_ok-words.words)) (drafted c.add_rule.new.draft) c.add_rule.result
+    (line_adds c.args.order c.in_ok-cells.cells c.in_ok-words.words c.args.line.number (drafted c.args.draft.now)
+    c.args.line.ended c.args.line.rest.now c.if-not-line.false c.in_ok-cells.ensures.fields c.in_ok-words.ensures)
+    c.add_rule.ensures
