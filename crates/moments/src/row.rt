@@ -62,7 +62,7 @@ impl<'a, T: Ordered> Row<'a, T> {
     // How many of the kept come before `x`, by halving.
     fn rank(&self, x: T) -> usize
         ensures within { result ≤ count self.now }
-        ensures place { Ascending before (kept self.now) → result ≡ rank before x (kept self.now) }
+        ensures place { Ascending T.before (kept self.now) → result ≡ rank T.before x (kept self.now) }
     {
         let mut low = 0;
         let mut high = self.len();
@@ -82,7 +82,7 @@ impl<'a, T: Ordered> Row<'a, T> {
     // The index of `x` if it is kept, else the index where it belongs.
     pub fn find(&self, x: T) -> Result<usize, usize>
         ensures within { elim result [ Ok i ↦ i < count self.now | Err i ↦ i ≤ count self.now ] }
-        ensures place { Ascending before (kept self.now) → result ≡ found before x (kept self.now) }
+        ensures place { Ascending T.before (kept self.now) → result ≡ found T.before x (kept self.now) }
     {
         let at = self.rank(x);
         if at < self.len() {
@@ -113,7 +113,7 @@ impl<'a, T: Ordered> Row<'a, T> {
     // Keeps `x`, and says whether it is new. A new one without a slot is refused as full, and the row keeps what it kept.
     pub fn add(&mut self, x: T) -> Result<bool, Refusal>
         ensures room { slots_of self.new ≡ slots_of self.old }
-        ensures answer { Ascending before (kept self.old) → Adds before (slots_of self.old) (kept self.old) x result (kept self.new) }
+        ensures answer { Ascending T.before (kept self.old) → Adds T.before (slots_of self.old) (kept self.old) x result (kept self.new) }
     {
         let at = match self.find(x) {
             Ok(_) => return Ok(false),

@@ -5,23 +5,23 @@ use Rattle.std.proofs.lemmas.List.{take_all}
 use Rattle.moments.specs.Numerals.{not_digits, number_fits, number_more}
 use Rattle.moments.proofs.digits.number.Goals as goal
 
-pub returns-then-not-is-ascii-digit : goal.returns-then-not-is-ascii-digit
-returns-then-not-is-ascii-digit c = not_digits c.args.digits.now c.loop-d.d-index (omega arith) (λ d. elim c.if-not-is-ascii-digit.ensures.cases [ inl l ↦ omega arith | inr g ↦ omega arith ])
+pub returns-then-not-is_ascii_digit : goal.returns-then-not-is_ascii_digit
+returns-then-not-is_ascii_digit c = not_digits c.args.digits.now c.loop-d.d-index (omega arith) (λ d. elim c.if-not-is_ascii_digit.ensures.cases [ inl l ↦ omega arith | inr g ↦ omega arith ])
 
-pub overflow-mul-n : goal.overflow-mul-n
-overflow-mul-n c =
+pub overflow_mul-n : goal.overflow_mul-n
+overflow_mul-n c =
     let b = number_fits c.args.digits.now c.loop-d.d-index c.loop-d.n c.requires (omega arith) c.loop-d.invariant.0 c.loop-d.invariant.1 in
     omega arith
 
-pub overflow-add-n : goal.overflow-add-n
-overflow-add-n c =
+pub overflow_add-n : goal.overflow_add-n
+overflow_add-n c =
     let b = number_fits c.args.digits.now c.loop-d.d-index c.loop-d.n c.requires (omega arith) c.loop-d.invariant.0 c.loop-d.invariant.1 in
-    let d = c.if-not-is-ascii-digit.ensures.cases in
+    let d = c.if-not-is_ascii_digit.ensures.cases in
     omega arith
 
 pub loop-d-preserved : goal.loop-d-preserved
 loop-d-preserved c =
-    let d = c.if-not-is-ascii-digit.ensures.cases in
+    let d = c.if-not-is_ascii_digit.ensures.cases in
     number_more c.args.digits.now c.loop-d.d-index c.loop-d.n c.from.result (omega arith) c.loop-d.invariant.0 c.loop-d.invariant.1 d (omega arith)
 
 pub returns : goal.returns

@@ -6,4 +6,4 @@ use Rattle.moments.proofs.digits.zero_padded.Goals as goal
 
 pub loop-preserved : goal.loop-preserved
 unfolding encode
-loop-preserved c = pushed (48 ∷ []) c.loop.invariant c.in-ok-push.was c.push.ensures.bytes ∙ replicate_more c.loop.counter 48
+loop-preserved c = pushed (48 ∷ []) c.loop.invariant c.in_ok-push.was c.push.ensures.bytes ∙ replicate_more c.loop.counter 48

@@ -9,8 +9,8 @@ returns-in-Ok g c = record {
   answer = λ a. add_there g.T.Ordered.before g.met.T.Ordered.total c.args.x (kept c.args.self.now) (kept c.args.self.now) (slots_of c.args.self.now) c.in-Ok.field-0 a (c.in-Ok.ensures.place a) refl;
 }
 
-pub returns-then-len-slot-count : goal.returns-then-len-slot-count
-returns-then-len-slot-count g c = record {
+pub returns-then-len-slot_count : goal.returns-then-len-slot_count
+returns-then-len-slot_count g c = record {
   room = refl;
   answer = λ a. add_full g.T.Ordered.before g.met.T.Ordered.total c.args.x (kept c.args.self.now) (kept c.args.self.now) (slots_of c.args.self.now) c.in-Err.at a (c.in-Err.ensures.place a) (omega (arith, c.len.ensures.kept)) refl;
 }
