@@ -4,7 +4,7 @@ use Rattle.terms.specs.declared.numbers.Place.{Place}
 use Rattle.pools.specs.declared.period.Period.{Period}
 use Rattle.moments.specs.Order.{first_by}
 
--- by label bit-number, then start, then end
+-- by label number, then start, then end
 abbrev pub earlier : {M : Type 0} → (M → M → Bool) → Period M → Period M → Bool
 earlier before = first_by nat_lt (λ p. p.label.0) (first_by before (λ p. p.start) (λ p q. before p.end q.end))
 

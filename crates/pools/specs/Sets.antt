@@ -19,7 +19,7 @@ with p ps = order.with sooner p ps
 
 -- the first member that is later than p
 abbrev pub least_after : Span → List Span → Option Span
-least_after p ps = order.least-after sooner p ps
+least_after p ps = order.least_after sooner p ps
 
 -- within the labels and places, and not backwards: what is not is off the pool
 abbrev pub in_bounds : ℕ → ℕ → Span → Bool

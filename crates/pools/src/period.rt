@@ -13,7 +13,7 @@ pub struct Period<M> {
     pub end: M,
 }
 
-// By label bit-number, then start, then end.
+// By label number, then start, then end.
 impl<M: Ordered> Ordered for Period<M> {
     ghost before = { earlier M.Ordered.before };
 
