@@ -16,5 +16,5 @@ pub same_text_lem : (a b : List ℕ) → a ≡ b → same_text a b ≡ true
 same_text_lem a b = (same_text_decides a b).1
 
 -- The text of the string at an index.
-pub name_of : (strings : List (String Global)) (i : ℕ) (s : String Global) → i < length strings → s ≡ get_or strings i s → name_at (texts strings) i ≡ string_bytes s
-name_of strings i s l e = get_or-map string_bytes strings i s [] l ∙ ap string_bytes (sym e)
+pub name_at-texts : (strings : List (String Global)) (i : ℕ) (s : String Global) → i < length strings → s ≡ get_or strings i s → name_at (texts strings) i ≡ string_bytes s
+name_at-texts strings i s l e = get_or-map string_bytes strings i s [] l ∙ ap string_bytes (sym e)
