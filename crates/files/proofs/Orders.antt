@@ -3,7 +3,7 @@ use Rattle.std.proofs.Common.{◌≡◌, ℕ, zero, suc, ◌+◌, Bool, true, fa
 use Rattle.std.proofs.lemmas.Bool.{false≢true, both_ways, not-true, and_parts, or_cases, or_parts, eqb-true, cases_Bool, cond-true, cond-false}
 use Rattle.files.specs.declared.columns.RuleColumn.{RuleColumn}
 use Rattle.files.specs.declared.columns.RuleColumn.TheVariants.{Label, First, How, Second}
-use Rattle.files.specs.RuleFiles.{column_name, same_column, has_column, each_once, fits, misfit, first_misfit, field_under}
+use Rattle.files.specs.RuleFiles.{column_name, same_column, has_column, each_once, fits, misfit, first_misfit, bytes_under}
 use Rattle.rules.proofs.Texts.{same_text_is, same_text_lem}
 use Rattle.files.proofs.Names.{column_found}
 
@@ -78,16 +78,16 @@ once_has cs h = at_each (λ c. has_column c cs) (and_parts (eqb (length cs) 4) _
 -- ---- fields under columns
 
 -- Where each field is f of its column, the field under a column is f of it.
-pub under-map : (f : RuleColumn → List ℕ) (c : RuleColumn) (cs : List RuleColumn) → has_column c cs ≡ true → field_under c cs (map f cs) ≡ f c
+pub under-map : (f : RuleColumn → List ℕ) (c : RuleColumn) (cs : List RuleColumn) → has_column c cs ≡ true → bytes_under c cs (map f cs) ≡ f c
 under-map f c [] h = absurd (false≢true h)
 under-map f c (d ∷ ds) h = elim (cases_Bool (same_column c d)) [
-  | inl e ↦ cond-true (same_column c d) (f d) (field_under c ds (map f ds)) e ∙ ap f (sym (same_column_lem c d e))
-  | inr e ↦ cond-false (same_column c d) (f d) (field_under c ds (map f ds)) e ∙ under-map f c ds (has_later c d ds h e)
+  | inl e ↦ cond-true (same_column c d) (f d) (bytes_under c ds (map f ds)) e ∙ ap f (sym (same_column_lem c d e))
+  | inr e ↦ cond-false (same_column c d) (f d) (bytes_under c ds (map f ds)) e ∙ under-map f c ds (has_later c d ds h e)
 ]
 
 -- A column and its field in front change nothing under the columns es that are others.
 under_others : (d : RuleColumn) (f : List ℕ) (ds : List RuleColumn) (fs : List (List ℕ)) (es : List RuleColumn) → has_column d es ≡ false →
-    map (λ c. field_under c (d ∷ ds) (f ∷ fs)) es ≡ map (λ c. field_under c ds fs) es
+    map (λ c. bytes_under c (d ∷ ds) (f ∷ fs)) es ≡ map (λ c. bytes_under c ds fs) es
 under_others d f ds fs [] h = refl
 under_others d f ds fs (e ∷ es) h =
     let n = or_parts (same_column d e) (has_column d es) h in
@@ -95,22 +95,22 @@ under_others d f ds fs (e ∷ es) h =
       | inl y ↦ absurd (both_ways (same_column d e) n.0 (ap (same_column d) (same_column_lem e d y) ∙ same_text_lem (column_name d) (column_name d) refl))
       | inr y ↦ y
     ] in
-    let one = cond-false (same_column e d) f (field_under e ds fs) other in
+    let one = cond-false (same_column e d) f (bytes_under e ds fs) other in
     let more = under_others d f ds fs es n.1 in
     cc
 
 -- The fields under each of the columns are the fields.
-under_each : (cs : List RuleColumn) (fs : List (List ℕ)) → apart cs ≡ true → length cs ≡ length fs → map (λ c. field_under c cs fs) cs ≡ fs
+under_each : (cs : List RuleColumn) (fs : List (List ℕ)) → apart cs ≡ true → length cs ≡ length fs → map (λ c. bytes_under c cs fs) cs ≡ fs
 under_each [] [] h l = refl
 under_each [] (f ∷ fs) h l = absurd (omega arith)
 under_each (c ∷ cs) [] h l = absurd (omega arith)
 under_each (c ∷ cs) (f ∷ fs) h l =
     let n = and_parts (not (has_column c cs)) (apart cs) h in
-    let one = cond-true (same_column c c) f (field_under c cs fs) (same_text_lem (column_name c) (column_name c) refl) in
+    let one = cond-true (same_column c c) f (bytes_under c cs fs) (same_text_lem (column_name c) (column_name c) refl) in
     let more = under_others c f cs fs cs (not-true (has_column c cs) n.0) ∙ under_each cs fs n.1 (omega arith) in
     cc
 
-pub under_once : (cs : List RuleColumn) (fs : List (List ℕ)) → each_once cs ≡ true → length fs ≡ 4 → map (λ c. field_under c cs fs) cs ≡ fs
+pub under_once : (cs : List RuleColumn) (fs : List (List ℕ)) → each_once cs ≡ true → length fs ≡ 4 → map (λ c. bytes_under c cs fs) cs ≡ fs
 under_once cs fs h l = under_each cs fs (once_apart_lem cs h) (once_four cs h ∙ sym l)
 
 -- ---- fields that are right under their columns
@@ -126,14 +126,14 @@ fit_first k c f cs fs h = elim (cases_Bool (fits c f)) [
 
 -- Where no field is wrong, the field under a column is right.
 pub under_fits : (k : ℕ) (c : RuleColumn) (cs : List RuleColumn) (fs : List (List ℕ)) → length cs ≡ length fs → has_column c cs ≡ true →
-    first_misfit k cs fs ≡ None → fits c (field_under c cs fs) ≡ true
+    first_misfit k cs fs ≡ None → fits c (bytes_under c cs fs) ≡ true
 under_fits k c [] fs l h m = absurd (false≢true h)
 under_fits k c (d ∷ ds) [] l h m = absurd (omega arith)
 under_fits k c (d ∷ ds) (f ∷ fs) l h m =
     let p = fit_first k d f ds fs m in
     elim (cases_Bool (same_column c d)) [
-      | inl e ↦ rw (cond-true (same_column c d) f (field_under c ds fs) e, same_column_lem c d e) p.0
-      | inr e ↦ rw (cond-false (same_column c d) f (field_under c ds fs) e)
+      | inl e ↦ rw (cond-true (same_column c d) f (bytes_under c ds fs) e, same_column_lem c d e) p.0
+      | inr e ↦ rw (cond-false (same_column c d) f (bytes_under c ds fs) e)
           (under_fits (k + 1) c ds fs (omega arith) (has_later c d ds h e) p.1)
     ]
 

@@ -14,7 +14,7 @@ use Rattle.files.specs.declared.columns.ColumnOrder.{ColumnOrder}
 use Rattle.files.specs.declared.fault.FieldFault.{FieldFault}
 use Rattle.files.specs.declared.fault.FieldFault.TheVariants.{Misspelt, Unrelated}
 use Rattle.files.specs.declared.rule_file.RuleWords.{RuleWords}
-use Rattle.files.specs.RuleFiles.{same_column, has_column, each_once, fits, misfit, first_misfit, field_under}
+use Rattle.files.specs.RuleFiles.{same_column, has_column, each_once, fits, misfit, first_misfit, bytes_under}
 use Rattle.files.specs.Columns.{in_order, cell_under, field_for}
 use Rattle.files.specs.Cells.{bytes_in, StandIn}
 use Rattle.files.specs.Fields.{fault_in}
@@ -120,12 +120,12 @@ no_misfit : (b : Bool) (x : Refusal × ℕ) (after : Option (Refusal × ℕ)) �
 no_misfit true x after e = (refl, e)
 no_misfit false x after e = absurd (grind arith)
 
-fits_under : (c : RuleColumn) (k : ℕ) (cs : List RuleColumn) (fs : List (List ℕ)) → length cs ≡ length fs → first_misfit k cs fs ≡ None → has_column c cs ≡ true → fits c (field_under c cs fs) ≡ true
+fits_under : (c : RuleColumn) (k : ℕ) (cs : List RuleColumn) (fs : List (List ℕ)) → length cs ≡ length fs → first_misfit k cs fs ≡ None → has_column c cs ≡ true → fits c (bytes_under c cs fs) ≡ true
 fits_under c k [] fs long none has = absurd (false≢true has)
 fits_under c k (d ∷ ds) [] long none has = absurd (omega arith)
 fits_under c k (d ∷ ds) (f ∷ fs) long none has =
     let both = no_misfit (fits d f) (misfit d, k) (first_misfit (k + 1) ds fs) none in
-    cond_both (same_column c d) f (field_under c ds fs) (λ x. fits c x ≡ true)
+    cond_both (same_column c d) f (bytes_under c ds fs) (λ x. fits c x ≡ true)
     (λ e. rw (same_column_lem c d e) both.0)
     (λ e. fits_under c (k + 1) ds fs (omega arith) both.1 (rw e at has))
 
@@ -138,7 +138,7 @@ pick false false false false f h = absurd (false≢true h)
 
 module _ (o : ColumnOrder) (f : Cells) where
   -- The cell under a column that the order has.
-  pub cell_is : (c : RuleColumn) → has_column c (in_order o) ≡ true → (cell_under c o f).bytes.now ≡ field_under c (in_order o) (bytes_in f)
+  pub cell_is : (c : RuleColumn) → has_column c (in_order o) ≡ true → (cell_under c o f).bytes.now ≡ bytes_under c (in_order o) (bytes_in f)
   cell_is c has = pick (same_column c o.0) (same_column c o.1) (same_column c o.2) (same_column c o.3) f has
 
   abbrev Each : Type 0
@@ -158,7 +158,7 @@ module _ (o : ColumnOrder) (f : Cells) where
   has_any Second once = (each once).3
 
   -- The part that was found under the column is right, and is the field.
-  pub found_is : (c : RuleColumn) (p : Part) → each_once (in_order o) ≡ true → p ≡ cell_under c o f → p.bytes.now ≡ field_under c (in_order o) (bytes_in f)
+  pub found_is : (c : RuleColumn) (p : Part) → each_once (in_order o) ≡ true → p ≡ cell_under c o f → p.bytes.now ≡ bytes_under c (in_order o) (bytes_in f)
   found_is c p once e = ap (λ (q : Part). q.bytes.now) e ∙ cell_is c (has_any c once)
 
   pub found_right : (c : RuleColumn) (p : Part) → each_once (in_order o) ≡ true → first_misfit 1 (in_order o) (bytes_in f) ≡ None → p ≡ cell_under c o f → fits c p.bytes.now ≡ true
@@ -171,11 +171,11 @@ module _ (o : ColumnOrder) (f : Cells) where
       → is_label l.bytes.now ≡ true → is_label a.bytes.now ≡ true → is_label b.bytes.now ≡ true
       → Reads o f w
   words_read w l a h b once none l-is a-is h-is b-is label first how second l-right a-right b-right =
-      let e₁ : w.label.now ≡ field_under Label (in_order o) (bytes_in f) = label ∙ found_is Label l once l-is in
-      let e₂ : w.first.now ≡ field_under First (in_order o) (bytes_in f) = first ∙ found_is First a once a-is in
-      let e₃ : w.how ≡ unwrap_or (relation_named (field_under How (in_order o) (bytes_in f))) Before =
+      let e₁ : w.label.now ≡ bytes_under Label (in_order o) (bytes_in f) = label ∙ found_is Label l once l-is in
+      let e₂ : w.first.now ≡ bytes_under First (in_order o) (bytes_in f) = first ∙ found_is First a once a-is in
+      let e₃ : w.how ≡ unwrap_or (relation_named (bytes_under How (in_order o) (bytes_in f))) Before =
       ap (λ (r : Option Relation). unwrap_or r Before) (sym how) ∙ ap (λ (t : List ℕ). unwrap_or (relation_named t) Before) (found_is How h once h-is) in
-      let e₄ : w.second.now ≡ field_under Second (in_order o) (bytes_in f) = second ∙ found_is Second b once b-is in
+      let e₄ : w.second.now ≡ bytes_under Second (in_order o) (bytes_in f) = second ∙ found_is Second b once b-is in
       record {
         right = none;
         rule = λ i. record { label = e₁ i; first = e₂ i; how = e₃ i; second = e₄ i };

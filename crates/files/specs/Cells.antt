@@ -1,5 +1,5 @@
 -- A line cut into four fields.
-use Rattle.std.specs.Prelude.{◌≡◌, ℕ, false, List, [], ◌∷◌, length, nat_eq}
+use Rattle.std.specs.Prelude.{◌≡◌, ℕ, false, List, [], ◌∷◌, length, ◌==◌}
 use Rattle.files.specs.declared.parts.Part.{Part}
 use Rattle.files.specs.declared.parts.Line.{Line}
 use Rattle.files.specs.declared.cells.Cells.{Cells}
@@ -35,5 +35,5 @@ pub record FourTaken (line : Line) (f : Cells) : Type 0 where
 
 -- The line has another number of fields.
 pub record NotFour (line : Line) (fault : LineFault) : Type 0 where
-  pub count : nat_eq (length (split comma line.rest.now)) 4 ≡ false
+  pub count : (length (split comma line.rest.now) == 4) ≡ false
   pub what : fault ≡ Ragged line.number

@@ -78,18 +78,18 @@ first_misfit k (c ∷ cs) [] = None
 first_misfit k (c ∷ cs) (f ∷ fs) = cond (fits c f) (first_misfit (k + 1) cs fs) (Some (misfit c, k))
 
 -- The field under a column.
-abbrev pub field_under : RuleColumn → List RuleColumn → List (List ℕ) → List ℕ
-field_under c [] fs = []
-field_under c (d ∷ ds) [] = []
-field_under c (d ∷ ds) (f ∷ fs) = cond (same_column c d) f (field_under c ds fs)
+abbrev pub bytes_under : RuleColumn → List RuleColumn → List (List ℕ) → List ℕ
+bytes_under c [] fs = []
+bytes_under c (d ∷ ds) [] = []
+bytes_under c (d ∷ ds) (f ∷ fs) = cond (same_column c d) f (bytes_under c ds fs)
 
 -- The rule that the fields say, where each is right under its column.
 abbrev pub rule_in : List RuleColumn → List (List ℕ) → Written
 rule_in cs fs = record {
-  label = field_under Label cs fs;
-  first = field_under First cs fs;
-  how = unwrap_or (relation_named (field_under How cs fs)) Before;
-  second = field_under Second cs fs;
+  label = bytes_under Label cs fs;
+  first = bytes_under First cs fs;
+  how = unwrap_or (relation_named (bytes_under How cs fs)) Before;
+  second = bytes_under Second cs fs;
 }
 
 -- ---- the file

@@ -6,7 +6,7 @@ use Rattle.std.proofs.lemmas.Bool.{cases_Bool, both_ways, cond_both, lt-ltb, le-
 use Rattle.terms.specs.declared.refusal.Refusal.TheVariants.{Full}
 use Rattle.moments.specs.Order.{StrictTotalOrder, Ascending, among, with, found}
 use Rattle.moments.specs.Rows.{Adds, added}
-use Rattle.moments.specs.Ascents.{with_there, with_new, with_ascends, with-length, not_found, there}
+use Rattle.moments.proofs.Ascents.{with_there, with_new, with_ascends, with-length, not_found, there}
 
 module _ {A : Type 0} (before : A → A → Bool) (laws : StrictTotalOrder before) where
   pub with_only : (x : A) (xs : List A) (y : A) → Memᴰ y (with before x xs) → (y ≡ x) ⊎ Memᴰ y xs

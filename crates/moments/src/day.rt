@@ -1,6 +1,6 @@
 ghost use Rattle.moments.specs.Days.{day_before, day_ranged, day_written};
 ghost use Rattle.std.proofs.Common.{rules};
-ghost use Rattle.moments.specs.DayTexts.{day_apart};
+ghost use Rattle.moments.specs.Laws.DayTexts.{day_apart};
 
 use crate::digits::number;
 use crate::moment::Moment;

@@ -1,7 +1,7 @@
 ghost use Rattle.std.specs.Prelude.{◌≡◌};
 ghost use Rattle.std.specs.Int.{is_in_range};
 ghost use Rattle.moments.specs.SheetStamps.{stamp_before, stamp_ranged, stamp_written, Parted};
-ghost use Rattle.moments.specs.Stamps.{stamp_laws, stamp_apart};
+ghost use Rattle.moments.specs.Laws.Stamps.{stamp_laws, stamp_apart};
 
 use crate::digits::{number, zero_padded};
 use crate::moment::Moment;

@@ -7,7 +7,7 @@ use Rattle.std.proofs.lemmas.Bool.{eq-eqb, ne_eqb, or_right, or_from, cases_Bool
 use Rattle.pools.specs.Periods.{Span, sooner}
 use Rattle.pools.specs.Sets.{Ascending, Puts, in_bounds, all_in_bounds, member, with}
 use Rattle.pools.specs.Cells.{Laid, every, filtered, triangular, bit_number, bit_at, has_bit, on_grid, grid_size, needed, measures, measure_answer, with_bit, put_words, wiped_words}
-use Rattle.pools.specs.Earlier.{sooner_laws}
+use Rattle.pools.specs.Laws.Earlier.{sooner_laws}
 use Rattle.pools.proofs.Filters.{filtered_ascends, filtered-length, among_filtered, filtered_same, filtered_with, with_longer}
 use Rattle.pools.proofs.Grids.{every_ascends, every_inside, every_bounds, every_in, among_every, every-length, number_apart, bounds}
 use Rattle.pools.proofs.Marks.{marked_none, marked_with}
@@ -38,21 +38,21 @@ module _ (labels m : ℕ) (words : List ℕ) where
   has_out p h = sym (grid_member p ∙ ap (λ (b : Bool). b && has_bit m words p) h)
 
   -- the bit of a period in bounds lies in the words needed
-  pub word_of : (p : Span) → in_bounds labels m p ≡ true → needed labels m ≤ length words → bit_number m p / 32 < length words
-  word_of p h n =
+  pub word_within : (p : Span) → in_bounds labels m p ≡ true → needed labels m ≤ length words → bit_number m p / 32 < length words
+  word_within p h n =
       let b = bounds labels m p h in
       let q = in_words (bit_number m p) (labels * triangular m) (number_below labels m p.label.0 p.start.0 p.end.0 b.0 b.2 b.1) in
       omega arith
 
   pub word_at : (p : Span) (k : ℕ) → k ≡ bit_number m p → in_bounds labels m p ≡ true → needed labels m ≤ length words → k / 32 < length words
-  word_at p k e h n = subst (λ (i : ℕ). i / 32 < length words) (sym e) (word_of p h n)
+  word_at p k e h n = subst (λ (i : ℕ). i / 32 < length words) (sym e) (word_within p h n)
 
   pub shown_at : (p : Span) (k : ℕ) (r : Bool) → k ≡ bit_number m p → r ≡ bit_at words k → r ≡ has_bit m words p
   shown_at p k r e h = h ∙ ap (bit_at words) e
 
   -- what marking a bit does to the bits, and to the length
   pub with_marks : (p : Span) (k : ℕ) (words' : List ℕ) → k ≡ bit_number m p → words' ≡ with_bit words k → in_bounds labels m p ≡ true → needed labels m ≤ length words → (j : ℕ) → bit_at words' j ≡ (bit_at words j || eqb (bit_number m p) j)
-  with_marks p k words' e h b n j = ap (λ (ws : List ℕ). bit_at ws j) (h ∙ ap (with_bit words) e) ∙ marked_with words (bit_number m p) j (word_of p b n)
+  with_marks p k words' e h b n j = ap (λ (ws : List ℕ). bit_at ws j) (h ∙ ap (with_bit words) e) ∙ marked_with words (bit_number m p) j (word_within p b n)
 
   pub with_room : (k : ℕ) (words' : List ℕ) → words' ≡ with_bit words k → length words' ≡ length words
   with_room k words' h = ap length h ∙ length-set words (k / 32) _

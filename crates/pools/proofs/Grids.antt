@@ -6,7 +6,7 @@ use Rattle.moments.specs.Order.{StrictTotalOrder, all_after, ascends, Ascending,
 use Rattle.pools.specs.Periods.{Span, sooner}
 use Rattle.pools.specs.Sets.{in_bounds}
 use Rattle.pools.specs.Cells.{cell, by_end, by_start, by_label, every, triangular, bit_number}
-use Rattle.pools.specs.Earlier.{sooner_laws, same_period, by_label_less, by_start_less, by_end_less}
+use Rattle.pools.specs.Laws.Earlier.{sooner_laws, same_period, by_label_less, by_start_less, by_end_less}
 use Rattle.pools.proofs.Filters.{among_here}
 use Rattle.pools.proofs.Triangles.{tri_more, number_same}
 

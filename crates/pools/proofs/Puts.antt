@@ -10,9 +10,9 @@ use Rattle.pools.specs.declared.size.Size.{Size}
 use Rattle.pools.specs.Periods.{Span, sooner}
 use Rattle.moments.specs.Rows.{Adds, added}
 use Rattle.pools.specs.Sets.{Puts, put_answer, set_after, in_bounds, member, Ascending, with, all_in_bounds}
-use Rattle.moments.specs.Ascents.{with_there}
+use Rattle.moments.proofs.Ascents.{with_there}
 use Rattle.moments.proofs.Additions.{with_only, with_all, added-length}
-use Rattle.pools.specs.Earlier.{sooner_laws}
+use Rattle.pools.specs.Laws.Earlier.{sooner_laws}
 
 module _ (size : Size) (ps : List Span) (p : Span) where
   accepted : (qs : List Span) → Ok tt ≡ put_answer size ps p → qs ≡ set_after size ps p → qs ≡ with p ps → Puts size ps p (Ok tt) qs

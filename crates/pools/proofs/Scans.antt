@@ -5,7 +5,7 @@ use Rattle.std.proofs.lemmas.Bool.{cases_Bool, cases_eq, cond_both, ltb-true, lt
 use Rattle.moments.specs.Order.{least, least_after}
 use Rattle.pools.specs.Periods.{Span, sooner}
 use Rattle.pools.specs.Cells.{cell, by_end, by_start, by_label, every, filtered}
-use Rattle.pools.specs.Earlier.{sooner_laws, by_label_less, by_start_less, by_end_less, by_label_more, by_start_more, by_end_more}
+use Rattle.pools.specs.Laws.Earlier.{sooner_laws, by_label_less, by_start_less, by_end_less, by_label_more, by_start_more, by_end_more}
 use Rattle.pools.proofs.Filters.{filtered-append, found_first, found_later, least_after_filtered}
 use Rattle.pools.proofs.Grids.{all_ends, all_starts, all_labels}
 

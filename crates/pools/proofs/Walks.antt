@@ -5,7 +5,8 @@ use Rattle.std.proofs.lemmas.Bool.{and_parts, cases_lt}
 use Rattle.std.proofs.lemmas.List.{take_more, take_all}
 use Rattle.std.proofs.lemmas.Option.{slice_get-get_or, slice_get_past}
 use Rattle.moments.specs.Order.{StrictTotalOrder, all_after, ascends, Ascending, least_after}
-use Rattle.moments.specs.Ascents.{asym, after_at, first_after}
+use Rattle.moments.specs.Laws.Lex.{asym}
+use Rattle.moments.proofs.Ascents.{after_at, first_after}
 
 module _ {A : Type 0} where
   pub nth_some : (xs : List A) (i : ℕ) (x : A) → Some x ≡ slice_get xs i → (i < length xs) × (get_or xs i x ≡ x)

@@ -3,4 +3,4 @@ pub mod GridPools
 pub mod ListPools
 pub mod Periods
 pub mod Sets
-pub mod Earlier
+pub mod Laws

@@ -1,5 +1,5 @@
 ghost use Rattle.pools.specs.Periods.{earlier};
-ghost use Rattle.pools.specs.Earlier.{earlier_laws};
+ghost use Rattle.pools.specs.Laws.Earlier.{earlier_laws};
 
 use moments::Ordered;
 use terms::LabelNo;

@@ -7,7 +7,7 @@ use Rattle.rules.specs.declared.rule.Rule.{Rule}
 use Rattle.terms.specs.declared.numbers.LabelNo.{LabelNo}
 use Rattle.rules.specs.Texts.{texts}
 use Rattle.rules.specs.Drafts.{Entered, Wrote, Extends}
-use Rattle.rules.specs.Written.{Written, index_of, enter, enter_rule, label_no, number_rule}
+use Rattle.rules.specs.Written.{Written, index_of, enter, enter_rule, label_number, number_rule}
 use Rattle.rules.proofs.Numbering.{index_extends, enter_there, enter_new, enter_index, extends_trans, texts_extends, index_new}
 
 -- ---- a name is entered
@@ -38,7 +38,7 @@ pub unchanged : {A : Type 0} (xs : List A) → Extends xs xs
 unchanged xs = ([], sym (append-nil xs))
 
 -- A name's number stays when more names come.
-stays : (old names after : List (String Global)) (t : List ℕ) (a : LabelNo) → Entered old t names (Ok a) → Extends names after → a ≡ label_no (texts after) t
+stays : (old names after : List (String Global)) (t : List ℕ) (a : LabelNo) → Entered old t names (Ok a) → Extends names after → a ≡ label_number (texts after) t
 stays old names after t a o p =
     let l : index_of (texts names) t < length (texts names) = subst (λ ns. index_of ns t < length ns) (sym o.0) (enter_index (texts old) t) in
     let e : a.0 ≡ index_of (texts after) t = o.1 ∙ sym (index_extends (texts names) (texts after) t (texts_extends names after p) l) in

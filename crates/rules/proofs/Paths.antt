@@ -4,7 +4,7 @@ use Rattle.std.proofs.lemmas.Bool.{and_parts, and_from, and_right, or_cases, or_
 use Rattle.terms.specs.declared.numbers.LabelNo.{LabelNo}
 use Rattle.rules.specs.declared.rule.Rule.{Rule}
 use Rattle.rules.specs.Reach.{via, leads_to}
-use Rattle.rules.specs.Words.{rule_at, ReadBy, read_by, Chain, alone, next, Leads}
+use Rattle.rules.specs.Words.{rule_by_index, ReadBy, read_by, Chain, alone, next, Leads}
 
 -- ---- the test `read_by`
 
@@ -23,8 +23,8 @@ read_by_true rules i j h =
       from_table = ltb-true i (length rules) p.0;
       to_table = ltb-true j (length rules) q.0;
       reads = elim (or_cases _ _ q.1) [
-        | inl e ↦ inl (same_label (rule_at rules i).label (rule_at rules j).first e)
-        | inr e ↦ inr (same_label (rule_at rules i).label (rule_at rules j).second e)
+        | inl e ↦ inl (same_label (rule_by_index rules i).label (rule_by_index rules j).first e)
+        | inr e ↦ inr (same_label (rule_by_index rules i).label (rule_by_index rules j).second e)
       ];
     }
 
@@ -34,8 +34,8 @@ true_read_by rules i j r =
     and_from _ _ (lt-ltb i (length rules) r.from_table)
     (and_from _ _ (lt-ltb j (length rules) r.to_table)
     (elim r.reads [
-      | inl e ↦ or_left _ _ (test_label (rule_at rules i).label (rule_at rules j).first e)
-      | inr e ↦ or_right _ _ (test_label (rule_at rules i).label (rule_at rules j).second e)
+      | inl e ↦ or_left _ _ (test_label (rule_by_index rules i).label (rule_by_index rules j).first e)
+      | inr e ↦ or_right _ _ (test_label (rule_by_index rules i).label (rule_by_index rules j).second e)
     ]))
 
 -- ---- rounds: via k i j says that a path of one or more steps goes from i to j, through rules below k
@@ -108,7 +108,7 @@ module _ (rules : List Rule) where
   unfolding leads_to
   leads_to_tells i j = (via_leads (length rules) i j, leads_via i j)
 
-pub read_by_is : (rules : List Rule) (i j : ℕ) → i < length rules → j < length rules → read_by rules i j ≡ (eqb (rule_at rules i).label.0 (rule_at rules j).first.0 || eqb (rule_at rules i).label.0 (rule_at rules j).second.0)
+pub read_by_is : (rules : List Rule) (i j : ℕ) → i < length rules → j < length rules → read_by rules i j ≡ (eqb (rule_by_index rules i).label.0 (rule_by_index rules j).first.0 || eqb (rule_by_index rules i).label.0 (rule_by_index rules j).second.0)
 unfolding read_by
 read_by_is rules i j h k = rw (lt-ltb i (length rules) h, lt-ltb j (length rules) k) refl
 

@@ -9,7 +9,7 @@ use Rattle.rules.specs.declared.table.CloseFault.TheVariants.{Ringed, OutOfMemor
 use Rattle.rules.specs.declared.table.Table.{Table}
 use Rattle.rules.specs.Labels.{is_label}
 use Rattle.rules.specs.Texts.{texts}
-use Rattle.rules.specs.Words.{rule_at, Free, LowestBarred, WorkingOrder, Grouping}
+use Rattle.rules.specs.Words.{rule_by_index, Free, LowestBarred, WorkingOrder, Grouping}
 use Rattle.rules.specs.Written.{Written, names_of, rules_of, spell_rules, name_at}
 
 -- Its labels' names and its rules, each by number; its working order and its groups.
@@ -40,7 +40,7 @@ abbrev pub RuleIn : Table → RuleNo → Type 0
 RuleIn t rule = (0 < rule.0) × (rule.0 ≤ length (rules_in t))
 
 abbrev pub rule_of : Table → RuleNo → Rule
-rule_of t rule = rule_at (rules_in t) (rule.0 - 1)
+rule_of t rule = rule_by_index (rules_in t) (rule.0 - 1)
 
 -- What every table that exists keeps.
 pub record Closed (t : Table) : Type 0 where

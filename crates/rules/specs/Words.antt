@@ -1,6 +1,6 @@
 -- What a rule reads, chains of rules, rings, groups and working orders.
 -- A rule stands here for its index in the table: the rule with the number k has the index k - 1.
-use Rattle.std.specs.Prelude.{◌≡◌, ℕ, ◌-◌, ◌<◌, ◌≤◌, Bool, true, false, ◌&&◌, ◌||◌, ◌⊎◌, List, [], ◌∷◌, length, get_or, Decides, ◌==◌, ◌≢◌, nat_lt, slice_index_or}
+use Rattle.std.specs.Prelude.{◌≡◌, ℕ, ◌-◌, ◌<◌, ◌≤◌, Bool, true, false, ◌&&◌, ◌||◌, ◌⊎◌, List, [], ◌∷◌, length, Decides, ◌==◌, ◌≢◌, nat_lt, slice_index_or}
 use mathlib.Core.List.{Memᴰ}
 use Rattle.terms.specs.declared.numbers.LabelNo.{LabelNo}
 use Rattle.terms.specs.declared.numbers.RuleNo.{RuleNo}
@@ -13,8 +13,8 @@ abbrev label0 : LabelNo
 label0 = record { 0 = 0 }
 
 -- The rule at a place of the table; past the end, which no definition below reads, a rule that says nothing.
-abbrev pub rule_at : List Rule → ℕ → Rule
-rule_at rules i = slice_index_or rules i (record { label = label0; first = label0; how = Before; second = label0 })
+abbrev pub rule_by_index : List Rule → ℕ → Rule
+rule_by_index rules i = slice_index_or rules i (record { label = label0; first = label0; how = Before; second = label0 })
 
 -- The rule r reads a label if it is the first or the second of r.
 abbrev pub Reads : Rule → LabelNo → Type 0
@@ -24,15 +24,15 @@ Reads r l = (l ≡ r.first) ⊎ (l ≡ r.second)
 pub record ReadBy (rules : List Rule) (i j : ℕ) : Type 0 where
   pub from_table : i < length rules
   pub to_table : j < length rules
-  pub reads : Reads (rule_at rules j) (rule_at rules i).label
+  pub reads : Reads (rule_by_index rules j) (rule_by_index rules i).label
 
 -- The same as a test.
 unfoldable pub read_by : List Rule → ℕ → ℕ → Bool
-read_by rules i j = nat_lt i (length rules) && (nat_lt j (length rules) && ((rule_at rules i).label.0 == (rule_at rules j).first.0 || (rule_at rules i).label.0 == (rule_at rules j).second.0))
+read_by rules i j = nat_lt i (length rules) && (nat_lt j (length rules) && ((rule_by_index rules i).label.0 == (rule_by_index rules j).first.0 || (rule_by_index rules i).label.0 == (rule_by_index rules j).second.0))
 
 -- The rule number at a place of an order, and the rule that has it.
 abbrev pub number_at : List RuleNo → ℕ → ℕ
-number_at order p = (get_or order p (record { 0 = 0 })).0
+number_at order p = (slice_index_or order p (record { 0 = 0 })).0
 
 abbrev pub at : List RuleNo → ℕ → ℕ
 at order p = number_at order p - 1
@@ -81,7 +81,7 @@ module _ (rules : List Rule) where
   -- An exclusive rule that is in a ring.
   pub record Barred (i : ℕ) : Type 0 where
     pub in_table : i < length rules
-    pub kept : exclusive (rule_at rules i).how ≡ true
+    pub kept : exclusive (rule_by_index rules i).how ≡ true
     pub ringed : InRing i
 
   -- No exclusive rule is in a ring.

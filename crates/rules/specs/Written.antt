@@ -37,12 +37,12 @@ enter_rules names (w ∷ ws) = enter_rules (enter_rule names w) ws
 abbrev pub names_of : List Written → List (List ℕ)
 names_of ws = enter_rules [] ws
 
-abbrev pub label_no : List (List ℕ) → List ℕ → LabelNo
-label_no names text = record { 0 = index_of names text }
+abbrev pub label_number : List (List ℕ) → List ℕ → LabelNo
+label_number names text = record { 0 = index_of names text }
 
 -- The rule by the numbers that its labels have among the names.
 abbrev pub number_rule : List (List ℕ) → Written → Rule
-number_rule names w = record { label = label_no names w.label; first = label_no names w.first; how = w.how; second = label_no names w.second }
+number_rule names w = record { label = label_number names w.label; first = label_number names w.first; how = w.how; second = label_number names w.second }
 
 abbrev pub number_rules : List (List ℕ) → List Written → List Rule
 number_rules names ws = map (number_rule names) ws

@@ -34,7 +34,7 @@ impl Draft {
         how: Relation,
         second: &str,
     ) -> Result<RuleNo, AddFault>
-        ensures { Added (drafted self.old) (record { label = label.entry.now; first = first.now; how = how; second = second.now }) (drafted self.new) result }
+        ensures { Added (drafted self.old) (record { label = label.now; first = first.now; how = how; second = second.now }) (drafted self.new) result }
     {
         if let Some(why) = self.refusal(label, first, second) {
             return Err(AddFault::Refused(why));
@@ -58,7 +58,7 @@ impl Draft {
 
     // Why a rule of these names is refused, if it is.
     fn refusal(&self, label: &str, first: &str, second: &str) -> Option<Refusal>
-        ensures { (how : Relation) → result ≡ add_refusal (drafted self.now) (record { label = label.entry.now; first = first.now; how = how; second = second.now }) }
+        ensures { (how : Relation) → result ≡ add_refusal (drafted self.now) (record { label = label.now; first = first.now; how = how; second = second.now }) }
     {
         if !is_label(label.as_bytes())
             || !is_label(first.as_bytes())
@@ -122,7 +122,7 @@ fn write_rule(
 ) -> Result<RuleNo, AllocError>
     requires names { length (texts names.old.items) ≤ 32 }
     requires rules { length rules.old.items < 48 }
-    ensures { Wrote names.old.items rules.old.items (record { label = label.entry.now; first = first.now; how = how; second = second.now }) names.new.items rules.new.items result }
+    ensures { Wrote names.old.items rules.old.items (record { label = label.now; first = first.now; how = how; second = second.now }) names.new.items rules.new.items result }
 {
     let count = rules.len();
     let label = enter_name(heap, names, label)?;

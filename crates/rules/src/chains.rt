@@ -18,7 +18,7 @@ fn reads(rules: &[Rule], j: usize, i: usize) -> bool
 
 // The rules that read the label of the rule `i`.
 fn readers(rules: &[Rule], i: usize) -> RuleSet
-    requires rules_len_bound { length rules.now ≤ 48 }
+    requires few { length rules.now ≤ 48 }
     requires i_in_bounds { i < length rules.now }
     ensures { (j : ℕ) → holds result j ≡ read_by rules.now i j }
 {

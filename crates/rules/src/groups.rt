@@ -21,7 +21,7 @@ fn same_group(rows: &[RuleSet; MOST_RULES], i: usize, j: usize) -> bool
 // The index of the rule at a place of the order.
 fn rule_at(order: &[RuleNo; MOST_RULES], p: usize) -> usize
     requires p_bound { p < 48 }
-    requires p_nonzero { 0 < number_at order.now p }
+    requires numbered { 0 < number_at order.now p }
     ensures { result ≡ at order.now p }
 {
     (order[p].0 - 1) as usize

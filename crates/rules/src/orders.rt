@@ -9,8 +9,8 @@ use terms::RuleNo;
 
 // The lowest exclusive rule that is in a ring.
 pub(crate) fn ringed_exclusive(rules: &[Rule], rows: &[RuleSet; MOST_RULES]) -> Option<RuleNo>
-    requires rules_len_bound { length rules.now ≤ 48 }
-    requires by_index { (i j : ℕ) → Decides (marked rows.now i j) (Leads rules.now i j) }
+    requires few { length rules.now ≤ 48 }
+    requires rows_tell { (i j : ℕ) → Decides (marked rows.now i j) (Leads rules.now i j) }
     ensures { MatchOption result (Free rules.now) (λ no. LowestBarred rules.now no) }
 {
     for i in 0..rules.len() {
@@ -86,8 +86,8 @@ fn place(rows: &[RuleSet; MOST_RULES], n: usize, i: usize) -> usize
 
 // The rules in a working order, in the first places.
 pub(crate) fn working_order(rules: &[Rule], rows: &[RuleSet; MOST_RULES]) -> [RuleNo; MOST_RULES]
-    requires rules_len_bound { length rules.now ≤ 48 }
-    requires by_index { (i j : ℕ) → Decides (marked rows.now i j) (Leads rules.now i j) }
+    requires few { length rules.now ≤ 48 }
+    requires rows_tell { (i j : ℕ) → Decides (marked rows.now i j) (Leads rules.now i j) }
     ensures works { WorkingOrder rules.now (take (length rules.now) result) }
     ensures long { length result ≡ 48 }
     ensures placed { InPlace (marked rows.now) (length rules.now) result }

@@ -2,7 +2,7 @@ use Rattle.std.proofs.Common.{◌≡◌, ℕ, true, List, subst, inl, inr, arith
 use Rattle.std.specs.Str.Parse.{digits_value}
 use Rattle.std.specs.Str.{all_ascii_digits}
 use Rattle.std.proofs.lemmas.List.{take_all}
-use Rattle.moments.specs.Numerals.{not_digits, number_fits, number_more}
+use Rattle.moments.specs.Laws.Numerals.{not_digits, number_fits, number_more}
 use Rattle.moments.proofs.digits.number.Goals as goal
 
 pub returns-then-not-is_ascii_digit : goal.returns-then-not-is_ascii_digit

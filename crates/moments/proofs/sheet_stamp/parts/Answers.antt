@@ -1,5 +1,5 @@
 use Rattle.std.proofs.Common.{◌+◌, drop, arith}
-use Rattle.moments.specs.Stamps.{refused, no_season, no_sheet, no_line, part_below, parted}
+use Rattle.moments.specs.Laws.Stamps.{refused, no_season, no_sheet, no_line, part_below, parted}
 use Rattle.moments.specs.SheetStamps.{season_digits, sheet_digits, line_digits}
 use Rattle.moments.proofs.sheet_stamp.parts.Goals as goal
 

@@ -1,7 +1,7 @@
 use Rattle.std.proofs.Common.{◌≡◌, ℕ, ◌+◌, take, Some, vec_items, vec_len, sym, ap, ◌∙◌, arith}
 use Rattle.std.specs.List.{slice_get}
 use Rattle.pools.specs.Periods.{sooner}
-use Rattle.pools.specs.Earlier.{sooner_laws}
+use Rattle.pools.specs.Laws.Earlier.{sooner_laws}
 use Rattle.pools.proofs.Walks.{nth_some, walked_more, walked_all, after-nth}
 use Rattle.pools.proofs.walk.list_members.Goals as goal
 

@@ -9,7 +9,7 @@ pub bounds-order-p : goal.bounds-order-p
 bounds-order-p c =
     let e : c.place-p.result ≡ place_of (marked c.args.rows.now) (length c.args.rules.now) c.loop-i.i = c.place-p.ensures in
     let b = place_below (marked c.args.rows.now) (length c.args.rules.now) c.loop-i.i c.loop-i-test.true in
-    omega (arith, c.requires.rules_len_bound)
+    omega (arith, c.requires.few)
 
 pub loop-i-init : goal.loop-i-init
 loop-i-init c = fill_none (marked c.args.rows.now) (length c.args.rules.now) _ refl
@@ -17,7 +17,7 @@ loop-i-init c = fill_none (marked c.args.rows.now) (length c.args.rules.now) _ r
 pub loop-i-preserved : goal.loop-i-preserved
 loop-i-preserved c =
     fill_more (marked c.args.rows.now) (length c.args.rules.now) c.loop-i.i c.place-p.result c.loop-i.order
-    c.requires.rules_len_bound c.loop-i-test.true c.place-p.ensures c.loop-i.invariant
+    c.requires.few c.loop-i-test.true c.place-p.ensures c.loop-i.invariant
 
 pub returns : goal.returns
 returns c =
@@ -26,4 +26,4 @@ returns c =
     subst (λ (i : ℕ). Filling (marked c.args.rows.now) (length c.args.rules.now) i c.loop-i.order) n c.loop-i.invariant in
     let p = filled_in_place (marked c.args.rows.now) (length c.args.rules.now) c.loop-i.order o in
     let l = o.long in
-    record { works = in_place_works c.args.rules.now (marked c.args.rows.now) c.requires.by_index c.loop-i.order (omega (arith, c.requires.rules_len_bound)) p; long = l; placed = p }
+    record { works = in_place_works c.args.rules.now (marked c.args.rows.now) c.requires.rows_tell c.loop-i.order (omega (arith, c.requires.few)) p; long = l; placed = p }

@@ -1,6 +1,6 @@
 use Rattle.std.proofs.Common.{◌≡◌, ◌<◌, length, get_or, sym, ◌∙◌, inl, inr, arith}
 use Rattle.std.proofs.lemmas.Bool.{eqb-true, eqb-false}
-use Rattle.moments.specs.DayTexts.{day-length, day_leading, day_digits, day_no_digits}
+use Rattle.moments.specs.Laws.DayTexts.{day-length, day_leading, day_digits, day_no_digits}
 use Rattle.moments.proofs.day.DayMoment.read.Goals as goal
 use Rattle.moments.proofs.day.DayMoment.read.Goals.{else-field-eq48-via-then-field-eq48+else-field-gt1, else-field-eq48-via-else-field-eq48}
 

@@ -1,5 +1,5 @@
 use Rattle.std.proofs.Common.{min, length, sym, arith}
-use Rattle.moments.specs.Ascents.{found_there, found_after, found_past}
+use Rattle.moments.proofs.Ascents.{found_there, found_after, found_past}
 use Rattle.moments.proofs.row.Row.find.Goals as goal
 
 pub returns-then-not-precedes : goal.returns-then-not-precedes

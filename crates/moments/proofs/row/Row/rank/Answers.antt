@@ -1,5 +1,5 @@
 use Rattle.std.proofs.Common.{◌+◌, ◌-◌, ◌/◌, min, length, sym, arith}
-use Rattle.moments.specs.Ascents.{kept_rank_le, kept_passes, kept_stops}
+use Rattle.moments.proofs.Ascents.{kept_rank_le, kept_passes, kept_stops}
 use Rattle.moments.proofs.row.Row.rank.Goals as goal
 
 pub loop-low-init : goal.loop-low-init

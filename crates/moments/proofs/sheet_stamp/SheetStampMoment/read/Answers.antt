@@ -1,5 +1,5 @@
 use Rattle.std.proofs.Common.{sym}
-use Rattle.moments.specs.Stamps.{read_ranged, read_unranged}
+use Rattle.moments.specs.Laws.Stamps.{read_ranged, read_unranged}
 use Rattle.moments.proofs.sheet_stamp.SheetStampMoment.read.Goals as goal
 
 pub returns-then-in_range : goal.returns-then-in_range

@@ -1,7 +1,7 @@
 use Rattle.moments.specs.Rows.{kept}
 use Rattle.pools.specs.Periods.{sooner}
-use Rattle.moments.specs.Ascents.{next_there, next_new}
-use Rattle.pools.specs.Earlier.{sooner_laws}
+use Rattle.moments.proofs.Ascents.{next_there, next_new}
+use Rattle.pools.specs.Laws.Earlier.{sooner_laws}
 use Rattle.pools.proofs.list.ListPoolPool.next.Goals as goal
 
 pub returns-in-Ok : goal.returns-in-Ok

@@ -6,6 +6,7 @@ use mathlib.Core.List.{Memᴰ}
 use Rattle.std.specs.List.{slice_get}
 use Rattle.std.proofs.lemmas.Bool.{cases_Bool, and_parts, and_from, both_ways, or_cases, or_right, not-true, cond-true, cond-false, lt-ltb, le-ltb, cases_lt}
 use Rattle.std.proofs.lemmas.List.{length-take-le, get_or-take}
+use Rattle.moments.specs.Laws.Lex.{asym}
 use Rattle.moments.specs.Order.{StrictTotalOrder, all_after, ascends, Ascending, among, rank, with, least_after, found}
 
 ltb_suc : (a b : ℕ) → nat_lt (suc a) (suc b) ≡ nat_lt a b
@@ -15,12 +16,6 @@ ltb_suc a b = elim (cases_lt a b) [
 ]
 
 module _ {A : Type 0} (before : A → A → Bool) (laws : StrictTotalOrder before) where
-  pub asym : (x y : A) → before x y ≡ true → before y x ≡ false
-  asym x y h = elim (cases_Bool (before y x)) [
-    | inl t ↦ absurd (both_ways (before x x) (laws.irreflexive x) (laws.transitive x y x h t))
-    | inr f ↦ f
-  ]
-
   pub rank_le : (x : A) (ys : List A) → rank before x ys ≤ length ys
   rank_le x [] = omega arith
   rank_le x (y ∷ ys) = let ih = rank_le x ys in elim (cases_Bool (before y x)) [
@@ -71,7 +66,7 @@ module _ {A : Type 0} (before : A → A → Bool) (laws : StrictTotalOrder befor
       let parts = and_parts (all_after before y ys) (ascends before ys) a in
       let ih = among_at x ys d parts.1 in
       elim (cases_Bool (before y x)) [
-        | inl t ↦ rw (t, asym y x t) (ih ∙ ap (λ (b : Bool). b && not (before x (slice_index_or ys (rank before x ys) d))) (sym (ltb_suc (rank before x ys) (length ys))))
+        | inl t ↦ rw (t, asym before laws y x t) (ih ∙ ap (λ (b : Bool). b && not (before x (slice_index_or ys (rank before x ys) d))) (sym (ltb_suc (rank before x ys) (length ys))))
         | inr f ↦ rw f (elim (cases_Bool (before x y)) [
           | inl t ↦ rw (t, lt-ltb 0 (length (y ∷ ys)) (omega arith)) (among_none x ys (after_further x y ys t parts.0))
           | inr g ↦ rw (g, lt-ltb 0 (length (y ∷ ys)) (omega arith)) refl
@@ -94,7 +89,7 @@ module _ {A : Type 0} (before : A → A → Bool) (laws : StrictTotalOrder befor
   with_new x [] m = refl
   with_new x (y ∷ ys) m =
       elim (cases_Bool (before x y)) [
-        | inl t ↦ rw (t, asym x y t) refl
+        | inl t ↦ rw (t, asym before laws x y t) refl
         | inr f ↦ rw f (elim (cases_Bool (before y x)) [
           | inl t ↦ rw t (ap (λ (zs : List A). y ∷ zs) (with_new x ys (rw (f, t) at m)))
           | inr g ↦ absurd (both_ways true (rw (f, g) at m) refl)
@@ -136,7 +131,7 @@ module _ {A : Type 0} (before : A → A → Bool) (laws : StrictTotalOrder befor
       let parts = and_parts (all_after before y ys) (ascends before ys) a in
       let ih = least_after_at x ys parts.1 in
       elim (cases_Bool (before y x)) [
-        | inl t ↦ rw (t, asym y x t) ih
+        | inl t ↦ rw (t, asym before laws y x t) ih
         | inr f ↦ rw f (elim (cases_Bool (before x y)) [
           | inl t ↦ rw (t, among_none x ys (after_further x y ys t parts.0)) refl
           | inr g ↦ rw g (subst (λ (z : A). least_after before z ys ≡ slice_get ys 0) (sym (laws.connected x y g f)) (first_after y ys parts.0))

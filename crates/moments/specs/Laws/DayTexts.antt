@@ -9,8 +9,8 @@ use Rattle.std.proofs.lemmas.Bool.{both_ways, leb-true, le-leb, cases_lt}
 use Rattle.moments.specs.Days.{day_ranged, day_written}
 use Rattle.moments.specs.Moments.{ReadAs}
 use Rattle.moments.specs.declared.day.Day.{Day}
-use Rattle.moments.specs.Numerals.{own}
-use Rattle.moments.specs.Readings.{read_none, read_some}
+use Rattle.moments.specs.Laws.Numerals.{own}
+use Rattle.moments.specs.Laws.Readings.{read_none, read_some}
 
 pub day_apart : (x y : Day) → day_ranged x ≡ true → day_ranged y ≡ true → day_written x ≡ day_written y → x ≡ y
 day_apart x y r s e =

@@ -1,5 +1,5 @@
 -- The order and the texts of sheet stamps.
-use Rattle.std.specs.Prelude.{◌≡◌, ℕ, ◌+◌, ◌^◌, ◌<◌, ◌≤◌, Bool, true, false, ◌&&◌, ltb, List, [], ◌∷◌, ◌++◌, length, take, drop, Some, None, ◌≢◌, nat_le, nat_lt, slice_index, slice_index_or, refl}
+use Rattle.std.specs.Prelude.{◌≡◌, ℕ, ◌+◌, ◌^◌, ◌<◌, ◌≤◌, Bool, true, false, ◌&&◌, List, [], ◌∷◌, ◌++◌, length, take, drop, Some, None, ◌≢◌, nat_le, nat_lt, slice_index, slice_index_or, refl}
 use Rattle.std.proofs.Common.{sym, ap, subst, ◌∙◌, arith}
 use Rattle.std.specs.Str.Parse.{digits_value}
 use Rattle.std.specs.Int.{is_in_range}
@@ -11,26 +11,26 @@ use Rattle.moments.specs.Digits.{padded}
 use Rattle.moments.specs.Order.{StrictTotalOrder, first_by}
 use Rattle.moments.specs.SheetStamps.{first_season, last_season, first_sheet, last_sheet, first_line, last_line, season_digits, sheet_digits, line_digits, stamp_before, stamp_ranged, stamp_written, Parted}
 use Rattle.moments.specs.Moments.{ReadAs}
-use Rattle.moments.specs.Readings.{read_none}
+use Rattle.moments.specs.Laws.Readings.{read_none}
 use Rattle.moments.specs.declared.sheet_stamp.SheetStamp.{SheetStamp}
-use Rattle.moments.specs.Lex.{ltb_laws, first_irreflexive, first_transitive, first_connected}
-use Rattle.moments.specs.Numerals.{own, digits_padded, length-padded, padded_apart, padded_value, value_padded}
+use Rattle.moments.specs.Laws.Lex.{nat_lt_laws, first_irreflexive, first_transitive, first_connected}
+use Rattle.moments.specs.Laws.Numerals.{own, digits_padded, length-padded, padded_apart, padded_value, value_padded}
 
 abbrev by_line : SheetStamp → SheetStamp → Bool
 by_line s t = nat_lt s.line t.line
 
 abbrev by_sheet : SheetStamp → SheetStamp → Bool
-by_sheet = first_by ltb (λ s. s.sheet) by_line
+by_sheet = first_by nat_lt (λ s. s.sheet) by_line
 
 pub stamp_laws : StrictTotalOrder stamp_before
 stamp_laws = record {
-  irreflexive = first_irreflexive ltb ltb_laws (λ s. s.season) by_sheet (first_irreflexive ltb ltb_laws (λ s. s.sheet) by_line (λ s. ltb_laws.irreflexive s.line));
+  irreflexive = first_irreflexive nat_lt nat_lt_laws (λ s. s.season) by_sheet (first_irreflexive nat_lt nat_lt_laws (λ s. s.sheet) by_line (λ s. nat_lt_laws.irreflexive s.line));
   connected = λ s t h k.
-      let p = first_connected ltb ltb_laws (λ s. s.season) by_sheet s t h k in
-      let q = first_connected ltb ltb_laws (λ s. s.sheet) by_line s t p.1 p.2 in
-      let l = ltb_laws.connected s.line t.line q.1 q.2 in
+      let p = first_connected nat_lt nat_lt_laws (λ s. s.season) by_sheet s t h k in
+      let q = first_connected nat_lt nat_lt_laws (λ s. s.sheet) by_line s t p.1 p.2 in
+      let l = nat_lt_laws.connected s.line t.line q.1 q.2 in
       λ i. record { season = p.0 i; sheet = q.0 i; line = l i };
-  transitive = first_transitive ltb ltb_laws (λ s. s.season) by_sheet (first_transitive ltb ltb_laws (λ s. s.sheet) by_line (λ s t u. ltb_laws.transitive s.line t.line u.line));
+  transitive = first_transitive nat_lt nat_lt_laws (λ s. s.season) by_sheet (first_transitive nat_lt nat_lt_laws (λ s. s.sheet) by_line (λ s t u. nat_lt_laws.transitive s.line t.line u.line));
 }
 
 -- a slash at a place, and what follows it

@@ -3,10 +3,17 @@ use Rattle.std.specs.Prelude.{◌≡◌, Bool, true, false, ◌⊎◌, nat_lt, r
 use Rattle.std.proofs.Common.{sym, subst, ◌∙◌, inl, inr, arith}
 use Rattle.std.proofs.lemmas.Bool.{cases_Bool, both_ways, lt-ltb, le-ltb, ltb-true, ltb-false}
 use Rattle.moments.specs.Order.{StrictTotalOrder, first_by}
-use Rattle.moments.specs.Ascents.{asym}
 
-pub ltb_laws : StrictTotalOrder nat_lt
-ltb_laws = record {
+module _ {A : Type 0} (before : A → A → Bool) (laws : StrictTotalOrder before) where
+  -- of two values at most one comes before the other
+  pub asym : (x y : A) → before x y ≡ true → before y x ≡ false
+  asym x y h = elim (cases_Bool (before y x)) [
+    | inl t ↦ absurd (both_ways (before x x) (laws.irreflexive x) (laws.transitive x y x h t))
+    | inr f ↦ f
+  ]
+
+pub nat_lt_laws : StrictTotalOrder nat_lt
+nat_lt_laws = record {
   irreflexive = λ x. le-ltb x x (omega arith);
   connected = λ x y h k. omega (arith, ltb-false x y h, ltb-false y x k);
   transitive = λ x y z h k. lt-ltb x z (omega (arith, ltb-true x y h, ltb-true y z k));
