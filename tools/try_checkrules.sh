@@ -19,6 +19,11 @@ try() {
         echo "$1: no message"
         wrong=1
     fi
+    # an answer goes to standard output alone, a refusal too
+    if [ "$1" != unreadable ] && [ -s "$work/stderr" ]; then
+        echo "$1: on standard error: $(cat "$work/stderr")"
+        wrong=1
+    fi
 }
 
 mkdir -p "$work/accepted" "$work/refused" "$work/missing" "$work/unreadable/rules.txt"
