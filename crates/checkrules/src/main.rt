@@ -1,7 +1,7 @@
 // Reads `rules.txt` in the folder it is run in, and says whether the rule file stands or which line and column is at fault.
 #![tactic(auto)]
 
-use files::check_rules;
+use files::{CheckFault, check_rules};
 use std::io::ErrorKind;
 use std::process::ExitCode;
 use std::{fs, io};
@@ -11,13 +11,8 @@ const RULES: &str = "rules.txt";
 // The bytes of the rule file; a missing file reads as an empty one.
 fn read_file(rt: &HostRuntime) -> io::Result<Vec<u8>> {
     match fs::read(rt, RULES) {
-        Ok(bytes) => Ok(bytes),
-        Err(e) => {
-            if e.kind() == ErrorKind::NotFound {
-                return Ok(Vec::new(rt.alloc()));
-            }
-            Err(e)
-        }
+        Err(e) if e.kind() == ErrorKind::NotFound => Ok(Vec::new(rt.alloc())),
+        read => read,
     }
 }
 
@@ -29,14 +24,18 @@ fn main(rt: HostRuntime) -> io::Result<ExitCode> {
             return Ok(ExitCode::FAILURE);
         }
     };
-    let Ok(verdict) = check_rules(rt.alloc(), &bytes) else {
-        eprintln!(rt; "checkrules: not enough memory")?;
-        return Ok(ExitCode::FAILURE);
-    };
-    rt.print(verdict.text.as_str())?;
-    if verdict.accepted {
-        Ok(ExitCode::SUCCESS)
-    } else {
-        Ok(ExitCode::FAILURE)
+    match check_rules(rt.alloc(), &bytes) {
+        Ok(text) => {
+            rt.print(text.as_str())?;
+            Ok(ExitCode::SUCCESS)
+        }
+        Err(CheckFault::Refused(text)) => {
+            rt.print(text.as_str())?;
+            Ok(ExitCode::FAILURE)
+        }
+        Err(CheckFault::OutOfMemory) => {
+            eprintln!(rt; "checkrules: not enough memory")?;
+            Ok(ExitCode::FAILURE)
+        }
     }
 }

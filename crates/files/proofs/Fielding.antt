@@ -1,48 +1,32 @@
 -- The number of fields of a line, and of the columns that they name.
-use Rattle.std.proofs.Common.{◌≡◌, ℕ, suc, ◌≤◌, Bool, true, false, cond, ◌&&◌, eqb, List, [], ◌∷◌, length, IfSome, Some, None, Option, refl, ap, ◌∙◌, arith}
-use Rattle.std.proofs.lemmas.Bool.{ne_eqb, and_left, cond-false, false≢true}
+use Rattle.std.proofs.Common.{◌≡◌, ℕ, suc, false, cond, ◌&&◌, eqb, List, [], ◌∷◌, map, length, get_or, IfSome, Some, None, Option, Ok, Err, Result, MatchResult, refl, ap, ◌∙◌, arith}
+use Rattle.std.specs.Result.{result_ok}
+use Rattle.std.proofs.lemmas.Bool.{and_left, cond-false}
 use Rattle.files.specs.declared.columns.RuleColumn.{RuleColumn}
 use Rattle.files.specs.declared.columns.RuleColumn.TheVariants.{Label, First, How, Second}
-use Rattle.files.specs.declared.fault.LineFault.TheVariants.{Ragged}
+use Rattle.files.specs.declared.parts.Part.{Part}
+use Rattle.files.specs.declared.parts.Line.{Line}
+use Rattle.files.specs.declared.cells.Cells.{Cells}
+use Rattle.files.specs.declared.fault.LineFault.{LineFault}
 use Rattle.files.specs.Parts.{split}
 use Rattle.files.specs.RuleFiles.{column_named, columns_named, column_order, each_once, has_column, comma}
-use Rattle.files.specs.Cursors.{any_left}
-use Rattle.files.proofs.Cutting.{split_some}
-
-long_if_any : (fs : List (List ℕ)) → any_left fs ≡ true → 1 ≤ length fs
-long_if_any [] e = absurd (false≢true e)
-long_if_any (f ∷ fs) e = omega arith
-
--- After four fields there is one more.
-pub past_four : (xs ys a b c d : List ℕ) (f₁ f₂ f₃ : List (List ℕ)) (from to : Bool) → from ≡ false → to ≡ false → cond from [] (split comma xs) ≡ a ∷ f₁ → f₁ ≡ b ∷ f₂ → f₂ ≡ c ∷ f₃ → f₃ ≡ d ∷ cond to [] (split comma ys) → eqb (length (split comma xs)) 4 ≡ false
-past_four xs ys a b c d f₁ f₂ f₃ from to open₁ open₂ e₁ e₂ e₃ e₄ =
-    let first : split comma xs ≡ a ∷ f₁ = rw open₁ at e₁ in
-    let last : f₃ ≡ d ∷ split comma ys = rw open₂ at e₄ in
-    let more = long_if_any (split comma ys) (split_some comma ys) in
-    ne_eqb (length (split comma xs)) 4 (λ e. omega (arith, ap length first, ap length e₂, ap length e₃, ap length last, more, e))
-
--- A line keeps its number as its fields are taken.
-pub same_number : (n₀ n₁ n₂ n₃ n₄ : ℕ) → n₁ ≡ n₀ → n₂ ≡ n₁ → n₃ ≡ n₂ → n₄ ≡ n₃ → Ragged n₄ ≡ Ragged n₀
-same_number n₀ n₁ n₂ n₃ n₄ e₁ e₂ e₃ e₄ = ap Ragged (e₄ ∙ (e₃ ∙ (e₂ ∙ e₁)))
-
--- One column more, if the others are named.
-abbrev behind : RuleColumn → Option (List RuleColumn) → Option (List RuleColumn)
-behind c o = elim o [ None ↦ None | Some cs ↦ Some (c ∷ cs) ]
+use Rattle.files.proofs.Names.{before}
+use Rattle.files.specs.Cells.{bytes_in, FourTaken, NotFour}
 
 abbrev AsLong : List (List ℕ) → Option (List RuleColumn) → Type 0
 AsLong fs o = IfSome o (λ cs. length cs ≡ length fs)
 
-behind_long : (c : RuleColumn) (f : List ℕ) (fs : List (List ℕ)) (o : Option (List RuleColumn)) → AsLong fs o → AsLong (f ∷ fs) (behind c o)
-behind_long c f fs None h = tt
-behind_long c f fs (Some cs) h = ap suc h
+before_long : (o : Option RuleColumn) (f : List ℕ) (fs : List (List ℕ)) (p : Option (List RuleColumn)) → AsLong fs p → AsLong (f ∷ fs) (before o p)
+before_long None f fs p h = tt
+before_long (Some c) f fs None h = tt
+before_long (Some c) f fs (Some cs) h = ap suc h
 
 named_long : (fs : List (List ℕ)) → AsLong fs (columns_named fs)
 named_long [] = refl
-named_long (f ∷ fs) =
-    let others = named_long fs in
-    elim (column_named f) as (λ o. AsLong (f ∷ fs) (elim o [ None ↦ None | Some c ↦ behind c (columns_named fs) ])) [ None ↦ tt | Some c ↦ behind_long c f fs (columns_named fs) others ]
+named_long (f ∷ fs) = before_long (column_named f) f fs (columns_named fs) (named_long fs)
 
-abbrev settled : Option (List RuleColumn) → Option (List RuleColumn)
+-- The order that columns give, if the fields name some.
+abbrev pub settled : Option (List RuleColumn) → Option (List RuleColumn)
 settled o = elim o [ None ↦ None | Some cs ↦ cond (each_once cs) (Some cs) None ]
 
 settled_none : (fs : List (List ℕ)) (o : Option (List RuleColumn)) → AsLong fs o → eqb (length fs) 4 ≡ false → settled o ≡ None
@@ -54,3 +38,37 @@ settled_none fs (Some cs) long not-four =
 -- A names line with another number of fields gives no order.
 pub no_order : (line : List ℕ) → eqb (length (split comma line)) 4 ≡ false → column_order line ≡ None
 no_order line not-four = settled_none (split comma line) (columns_named (split comma line)) (named_long (split comma line)) not-four
+
+module _ (line : Line) (cut : Result Cells LineFault) (read : MatchResult cut (FourTaken line) (NotFour line)) where
+  -- What was not cut into four fields gives no order.
+  pub uncut_gives : result_ok cut ≡ None → column_order line.bytes.now ≡ None
+  uncut_gives none = go cut read none
+    where
+      go : (r : Result Cells LineFault) → MatchResult r (FourTaken line) (NotFour line) → result_ok r ≡ None → column_order line.bytes.now ≡ None
+      go (Ok cells) taken e = absurd (grind arith)
+      go (Err fault) other e = no_order line.bytes.now other.count
+
+  pub cut_fields : (cells : Cells) → result_ok cut ≡ Some cells → split comma line.bytes.now ≡ bytes_in cells
+  cut_fields cells some = go cut read some
+    where
+      go : (r : Result Cells LineFault) → MatchResult r (FourTaken line) (NotFour line) → result_ok r ≡ Some cells → split comma line.bytes.now ≡ bytes_in cells
+      go (Ok taken) four e = let same : taken ≡ cells = cc in four.fields ∙ ap bytes_in same
+      go (Err fault) other e = absurd (grind arith)
+
+one_named : (p : Part) (ps : List Part) (c : RuleColumn) (cs : List RuleColumn) → column_named p.bytes.now ≡ Some c → columns_named (map (λ q. q.bytes.now) ps) ≡ Some cs →
+    columns_named (map (λ q. q.bytes.now) (p ∷ ps)) ≡ Some (c ∷ cs)
+one_named p ps c cs one others =
+    ap (λ (o : Option RuleColumn). before o (columns_named (map (λ q. q.bytes.now) ps))) one ∙ ap (before (Some c)) others
+
+-- The order that four fields give, each of which names a column.
+pub four_named : (line : List ℕ) (ps : List Part) (d : Part) (c₁ c₂ c₃ c₄ : RuleColumn) → length ps ≡ 4 → split comma line ≡ map (λ p. p.bytes.now) ps →
+    column_named (get_or ps 0 d).bytes.now ≡ Some c₁ → column_named (get_or ps 1 d).bytes.now ≡ Some c₂ → column_named (get_or ps 2 d).bytes.now ≡ Some c₃ → column_named (get_or ps 3 d).bytes.now ≡ Some c₄ →
+    column_order line ≡ cond (each_once (c₁ ∷ c₂ ∷ c₃ ∷ c₄ ∷ [])) (Some (c₁ ∷ c₂ ∷ c₃ ∷ c₄ ∷ [])) None
+four_named line (p ∷ q ∷ r ∷ s ∷ []) d c₁ c₂ c₃ c₄ four fields e₁ e₂ e₃ e₄ =
+    ap (λ (fs : List (List ℕ)). settled (columns_named fs)) fields ∙ ap settled (one_named p (q ∷ r ∷ s ∷ []) c₁ (c₂ ∷ c₃ ∷ c₄ ∷ []) e₁
+    (one_named q (r ∷ s ∷ []) c₂ (c₃ ∷ c₄ ∷ []) e₂ (one_named r (s ∷ []) c₃ (c₄ ∷ []) e₃ (one_named s [] c₄ [] e₄ refl))))
+four_named line [] d c₁ c₂ c₃ c₄ four fields e₁ e₂ e₃ e₄ = absurd (omega arith)
+four_named line (p ∷ []) d c₁ c₂ c₃ c₄ four fields e₁ e₂ e₃ e₄ = absurd (omega arith)
+four_named line (p ∷ q ∷ []) d c₁ c₂ c₃ c₄ four fields e₁ e₂ e₃ e₄ = absurd (omega arith)
+four_named line (p ∷ q ∷ r ∷ []) d c₁ c₂ c₃ c₄ four fields e₁ e₂ e₃ e₄ = absurd (omega arith)
+four_named line (p ∷ q ∷ r ∷ s ∷ t ∷ ps) d c₁ c₂ c₃ c₄ four fields e₁ e₂ e₃ e₄ = absurd (omega arith)

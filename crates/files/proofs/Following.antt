@@ -1,38 +1,22 @@
 -- One line after the other, to the end of the file.
-use Rattle.std.proofs.Common.{◌≡◌, ℕ, ◌+◌, Bool, true, false, cond, eqb, List, [], ◌∷◌, ◌++◌, length, Some, None, Err, Option, Result, sym, refl, ap, ◌∙◌, subst, append_assoc, add-zero, arith, length-append}
+use Rattle.std.proofs.Common.{◌≡◌, ℕ, ◌+◌, Bool, true, false, cond, eqb, List, [], ◌∷◌, ◌++◌, length, Some, None, Ok, Err, Option, Result, MatchResult, sym, refl, ap, ◌∙◌, subst, append_assoc, add-zero, arith, length-append}
 use Rattle.std.proofs.lemmas.Bool.{cond-true, cond-false}
 use Rattle.terms.specs.declared.refusal.Refusal.{Refusal}
+use Rattle.terms.specs.declared.numbers.RuleNo.{RuleNo}
 use Rattle.terms.specs.declared.refusal.Refusal.TheVariants.{Unended, Misspelt, Overfull}
 use Rattle.rules.specs.declared.draft.AddFault.{AddFault}
 use Rattle.rules.specs.declared.draft.AddFault.TheVariants as add
 use Rattle.rules.specs.Drafts.{add_refusal, Added}
 use Rattle.rules.specs.Written.{Written, spelt, room_for}
-use Rattle.files.specs.declared.cells.Cells.{Cells}
 use Rattle.files.specs.declared.columns.RuleColumn.{RuleColumn}
-use Rattle.files.specs.declared.columns.ColumnOrder.{ColumnOrder}
 use Rattle.files.specs.declared.fault.LineFault.{LineFault}
 use Rattle.files.specs.declared.fault.Report.{Report}
-use Rattle.files.specs.declared.rule_file.RuleWords.{RuleWords}
-use Rattle.files.specs.Parts.{split}
-use Rattle.files.specs.RuleFiles.{Outcome, rules, fault, comma, first_misfit, fields_outcome, line_outcome, lines_outcome, rule_in}
-use Rattle.files.specs.Columns.{in_order}
-use Rattle.files.specs.Cells.{bytes_in}
+use Rattle.files.specs.RuleFiles.{Outcome, rules, fault, line_outcome, lines_outcome}
 use Rattle.files.specs.declared.parts.Line.{Line}
 use Rattle.files.specs.declared.parts.Lines.{Lines}
 use Rattle.files.specs.Cursors.{any_left, lines_left, LineTaken}
 use Rattle.files.specs.Faults.{line_told, unadded}
-use Rattle.files.specs.Answers.{Reads, Told, ToldOf, Fronted, GoesOn, said_by, add_outcome, rest_outcome}
-
-pub goes_on_by : {T : Type 0} (ws : List Written) (o o' : Outcome) (more : List Written) (r : Result T LineFault) → o ≡ o' → GoesOn ws o' more r → GoesOn ws o more r
-goes_on_by ws o o' more r e h = subst (λ (x : Outcome). GoesOn ws x more r) (sym e) h
-
-fields_add : (cs : List RuleColumn) (n : ℕ) (ws : List Written) (fs : List (List ℕ)) → first_misfit 1 cs fs ≡ None → fields_outcome cs n ws fs ≡ add_outcome n ws (rule_in cs fs)
-fields_add cs n ws fs e = ap (λ (m : Option (Refusal × ℕ)). elim m [ Some x ↦ fault x.0 n x.1 | None ↦ add_outcome n ws (rule_in cs fs) ]) e
-
--- A line whose four fields are right adds its rule.
-pub line_adds : (o : ColumnOrder) (f : Cells) (w : RuleWords) (n : ℕ) (ws : List Written) (ended : Bool) (rest : List ℕ) → ended ≡ true → split comma rest ≡ bytes_in f → Reads o f w → rest_outcome (in_order o) n ws ended rest ≡ add_outcome n ws (said_by w)
-line_adds o f w n ws ended rest whole fields reads =
-    rw (whole, fields) (fields_add (in_order o) n ws (bytes_in f) reads.right ∙ ap (add_outcome n ws) (sym reads.rule))
+use Rattle.files.specs.Answers.{Told, ToldOf, Fronted, add_outcome, rest_outcome}
 
 -- What follows an outcome, unless it is a fault.
 abbrev pub after : Outcome → (List Written → Outcome) → Outcome
@@ -76,9 +60,17 @@ no_room ws w why s h = go (room_for ws w) (sym (cond-true (spelt w) _ _ s) ∙ h
     go true e = absurd (grind arith)
     go false e = refl
 
-pub add_told : (n : ℕ) (ws after : List Written) (w : Written) (f : AddFault) → spelt w ≡ true → Added ws w after (Err f) → Told ws (add_outcome n ws w) (line_told (unadded f n))
+add_told : (n : ℕ) (ws after : List Written) (w : Written) (f : AddFault) → spelt w ≡ true → Added ws w after (Err f) → Told ws (add_outcome n ws w) (line_told (unadded f n))
 add_told n ws after w (add.Refused why) s h = cond-false (room_for ws w) _ _ (no_room ws w why s h.0)
 add_told n ws after w add.OutOfMemory s h = (w, cond-true (room_for ws w) _ _ (room_for_lem ws w h.0))
+
+-- A rule that was not added, and the fault that is made of that.
+pub unadded_told : (n : ℕ) (ws after : List Written) (w : Written) (r : Result RuleNo AddFault) (m : Result RuleNo LineFault) (x : LineFault) → spelt w ≡ true → Added ws w after r
+    → MatchResult r (λ number. m ≡ Ok number) (λ f. m ≡ Err (unadded f n)) → m ≡ Err x → Told ws (add_outcome n ws w) (line_told x)
+unadded_told n ws after w (Ok number) m x s h made is = absurd (grind arith)
+unadded_told n ws after w (Err f) m x s h made is =
+    let same : unadded f n ≡ x = cc in
+    subst (λ (y : LineFault). Told ws (add_outcome n ws w) (line_told y)) same (add_told n ws after w f s h)
 
 pub any_push : (front : List (List ℕ)) → any_left (front ++ ([] ∷ [])) ≡ true
 any_push [] = refl
@@ -147,24 +139,24 @@ module _ (cs : List RuleColumn) (n : ℕ) (ws : List Written) (parts : List (Lis
 module _ (cs : List RuleColumn) (n : ℕ) (ws : List Written) (parts : List (List ℕ)) (from to : Lines) (line : Line) (taken : LineTaken from to line) (vs : List Written)
     (same : lines_outcome cs n ws parts ≡ lines_outcome cs from.number vs (lines_left from))
     (fore : any_left (lines_left from) ≡ true → Fore cs n ws parts from.number vs (lines_left from)) where
-  same_here : lines_outcome cs n ws parts ≡ lines_outcome cs line.number vs (line.rest.now ∷ lines_left to)
-  same_here = same ∙ (ap (lines_outcome cs from.number vs) taken.lines ∙ ap (λ m. lines_outcome cs m vs (line.rest.now ∷ lines_left to)) (sym taken.number))
+  same_here : lines_outcome cs n ws parts ≡ lines_outcome cs line.number vs (line.bytes.now ∷ lines_left to)
+  same_here = same ∙ (ap (lines_outcome cs from.number vs) taken.lines ∙ ap (λ m. lines_outcome cs m vs (line.bytes.now ∷ lines_left to)) (sym taken.number))
 
-  fore_here : Fore cs n ws parts line.number vs (line.rest.now ∷ lines_left to)
-  fore_here = subst (λ m. Fore cs n ws parts m vs (line.rest.now ∷ lines_left to)) (sym taken.number)
+  fore_here : Fore cs n ws parts line.number vs (line.bytes.now ∷ lines_left to)
+  fore_here = subst (λ m. Fore cs n ws parts m vs (line.bytes.now ∷ lines_left to)) (sym taken.number)
       (subst (λ ls. Fore cs n ws parts from.number vs ls) taken.lines (fore (ap any_left taken.lines)))
 
   next_is : line.number + 1 ≡ to.number
   next_is = ap (λ m. m + 1) taken.number ∙ sym taken.next_number
 
-  pub step_same : (us : List Written) → rest_outcome cs line.number vs line.ended line.rest.now ≡ rules us → lines_outcome cs n ws parts ≡ lines_outcome cs to.number us (lines_left to)
+  pub step_same : (us : List Written) → rest_outcome cs line.number vs line.ended line.bytes.now ≡ rules us → lines_outcome cs n ws parts ≡ lines_outcome cs to.number us (lines_left to)
   step_same us e =
-      same_here ∙ (line_done cs line.number vs line.rest.now (lines_left to) line.ended taken.ended e ∙ ap (λ m. lines_outcome cs m us (lines_left to)) next_is)
+      same_here ∙ (line_done cs line.number vs line.bytes.now (lines_left to) line.ended taken.ended e ∙ ap (λ m. lines_outcome cs m us (lines_left to)) next_is)
 
-  pub step_fore : (us : List Written) → rest_outcome cs line.number vs line.ended line.rest.now ≡ rules us → any_left (lines_left to) ≡ true → Fore cs n ws parts to.number us (lines_left to)
+  pub step_fore : (us : List Written) → rest_outcome cs line.number vs line.ended line.bytes.now ≡ rules us → any_left (lines_left to) ≡ true → Fore cs n ws parts to.number us (lines_left to)
   step_fore us e any = subst (λ m. Fore cs n ws parts m us (lines_left to)) next_is
-      (fore_more cs n ws parts line.number vs line.rest.now (lines_left to) fore_here us
-      (sym (ap (λ (t : Bool). rest_outcome cs line.number vs t line.rest.now) (taken.ended ∙ any)) ∙ e))
+      (fore_more cs n ws parts line.number vs line.bytes.now (lines_left to) fore_here us
+      (sym (ap (λ (t : Bool). rest_outcome cs line.number vs t line.bytes.now) (taken.ended ∙ any)) ∙ e))
 
-  pub step_told : (t : Option Report) → Told vs (rest_outcome cs line.number vs line.ended line.rest.now) t → ToldOf (lines_outcome cs n ws) parts t
-  step_told t h = line_told_lem cs n ws parts line.number vs line.rest.now (lines_left to) fore_here t line.ended taken.ended same_here h
+  pub step_told : (t : Option Report) → Told vs (rest_outcome cs line.number vs line.ended line.bytes.now) t → ToldOf (lines_outcome cs n ws) parts t
+  step_told t h = line_told_lem cs n ws parts line.number vs line.bytes.now (lines_left to) fore_here t line.ended taken.ended same_here h

@@ -4,13 +4,10 @@ use Rattle.std.proofs.lemmas.Bool.{cond-true}
 use Rattle.files.specs.declared.columns.RuleColumn.{RuleColumn}
 use Rattle.files.specs.Parts.{split, joined}
 use Rattle.files.specs.RuleFiles.{comma, column_name, columns_named, column_order, each_once}
+use Rattle.files.proofs.Fielding.{settled}
 use Rattle.files.proofs.Splits.{joined_split}
 use Rattle.files.proofs.Names.{none_some, columns_found, columns_named_lem, column_label}
 use Rattle.files.proofs.Rows.{row_split}
-
--- The order that columns give, if the fields name some.
-abbrev given : Option (List RuleColumn) → Option (List RuleColumn)
-given o = elim o [ None ↦ None | Some cs ↦ cond (each_once cs) (Some cs) None ]
 
 -- A names line that gives an order has each column once, and is the line of their names.
 abbrev Gives : List ℕ → List RuleColumn → Type 0
@@ -27,13 +24,13 @@ order_says line cs h = go (columns_named (split comma line)) refl h
         (ap each_once (sym same) ∙ o, sym (joined_split comma line) ∙ ap (joined comma) (sym names))
     pick ds false e o h = absurd (none_some cs h)
 
-    go : (o : Option (List RuleColumn)) → columns_named (split comma line) ≡ o → given o ≡ Some cs → Gives line cs
+    go : (o : Option (List RuleColumn)) → columns_named (split comma line) ≡ o → settled o ≡ Some cs → Gives line cs
     go None e h = absurd (none_some cs h)
     go (Some ds) e h = pick ds (each_once ds) e refl h
 
 -- The line of the names of columns gives their order.
 pub order_said : (cs : List RuleColumn) → each_once cs ≡ true → column_order (joined comma (map column_name cs)) ≡ Some cs
 order_said cs once =
-    ap (λ (fs : List (List ℕ)). given (columns_named fs)) (row_split column_name column_label cs once)
-    ∙ ap given (columns_found cs)
+    ap (λ (fs : List (List ℕ)). settled (columns_named fs)) (row_split column_name column_label cs once)
+    ∙ ap settled (columns_found cs)
     ∙ cond-true (each_once cs) (Some cs) None once

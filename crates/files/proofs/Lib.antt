@@ -3,7 +3,6 @@ pub mod Fielding
 pub mod Reading
 pub mod Following
 pub mod Opening
-pub mod Closing
 pub mod Texts
 pub mod Splits
 pub mod Names

@@ -19,7 +19,7 @@ use Rattle.files.proofs.Values.{cell_fits, cell_label, rule_in_cells, cells_in_r
 pub fault_rules : (r : Refusal) (n k : ℕ) (ws : List Written) → fault r n k ≡ rules ws → ⊥
 fault_rules r n k ws e = let z : ◌≡◌ {A = ℕ} 0 1 = cc in omega arith
 
-rules_same : (ws vs : List Written) → rules ws ≡ rules vs → ws ≡ vs
+pub rules_same : (ws vs : List Written) → rules ws ≡ rules vs → ws ≡ vs
 rules_same ws vs e = cc
 
 module _ (cs : List RuleColumn) (once : each_once cs ≡ true) where

@@ -3,29 +3,17 @@ use Rattle.std.proofs.Common.{◌≡◌, ℕ, true, cond, List, [], ◌∷◌, m
 use Rattle.std.proofs.lemmas.Bool.{false≢true, cases_Bool, cond-true, cond-false}
 use Rattle.rules.specs.declared.relation.Relation.{Relation}
 use Rattle.rules.specs.declared.relation.Relation.TheVariants.{Before, Meet, During, Coincide, Start, Finish, Overlap, Slice, After, Follow, Contain}
-use Rattle.rules.specs.Texts.{same_text}
 use Rattle.rules.specs.Labels.{is_label}
-use Rattle.rules.specs.Relations.{relation_word, relation_named}
+use Rattle.rules.specs.Relations.{relation_word, relations, relation_named}
 use Rattle.files.specs.declared.columns.RuleColumn.{RuleColumn}
 use Rattle.files.specs.declared.columns.RuleColumn.TheVariants.{Label, First, How, Second}
-use Rattle.files.specs.RuleFiles.{column_name, column_named, columns_named}
-use Rattle.rules.proofs.Texts.{same_text_is}
+use Rattle.files.specs.RuleFiles.{column_name, columns, column_named, columns_named}
+use Rattle.terms.proofs.Words.{found_word}
 
 -- ---- one name after another
 
 pub none_some : {X : Type 0} (x : X) → ◌≡◌ {A = Option X} None (Some x) → ⊥
 none_some x e = let z : ◌≡◌ {A = ℕ} 0 1 = cc in omega arith
-
--- Where the names are tried one after another, what is found has the name: it is this one or one of the rest.
-module _ {X : Type 0} (name : X → List ℕ) (text : List ℕ) (y : X) where
-  named_next : (x : X) (rest : Option X) → (rest ≡ Some y → name y ≡ text) → cond (same_text (name x) text) (Some x) rest ≡ Some y → name y ≡ text
-  named_next x rest more h = elim (cases_Bool (same_text (name x) text)) [
-    | inl e ↦
-        let found : Some x ≡ Some y = sym (cond-true (same_text (name x) text) (Some x) rest e) ∙ h in
-        let same : x ≡ y = cc in
-        subst (λ (z : X). name z ≡ text) same (same_text_is (name x) text e)
-    | inr e ↦ more (sym (cond-false (same_text (name x) text) (Some x) rest e) ∙ h)
-  ]
 
 -- ---- columns
 
@@ -36,14 +24,10 @@ column_found How = refl
 column_found Second = refl
 
 column_named_lem : (name : List ℕ) (c : RuleColumn) → column_named name ≡ Some c → column_name c ≡ name
-column_named_lem name c h =
-    named_next column_name name c Label _ (
-    named_next column_name name c First _ (
-    named_next column_name name c How _ (
-    named_next column_name name c Second None (λ e. absurd (none_some c e))))) h
+column_named_lem name c h = found_word column_name name columns c h
 
 -- A column before others, if each is found.
-abbrev before : Option RuleColumn → Option (List RuleColumn) → Option (List RuleColumn)
+abbrev pub before : Option RuleColumn → Option (List RuleColumn) → Option (List RuleColumn)
 before o p = elim o [ None ↦ None | Some c ↦ elim p [ None ↦ None | Some cs ↦ Some (c ∷ cs) ] ]
 
 pub columns_found : (cs : List RuleColumn) → columns_named (map column_name cs) ≡ Some cs
@@ -88,18 +72,7 @@ relation_found Follow = refl
 relation_found Contain = refl
 
 relation_named_lem : (word : List ℕ) (h : Relation) → relation_named word ≡ Some h → relation_word h ≡ word
-relation_named_lem word h e =
-    named_next relation_word word h Before _ (
-    named_next relation_word word h Meet _ (
-    named_next relation_word word h During _ (
-    named_next relation_word word h Coincide _ (
-    named_next relation_word word h Start _ (
-    named_next relation_word word h Finish _ (
-    named_next relation_word word h Overlap _ (
-    named_next relation_word word h Slice _ (
-    named_next relation_word word h After _ (
-    named_next relation_word word h Follow _ (
-    named_next relation_word word h Contain None (λ n. absurd (none_some h n)))))))))))) e
+relation_named_lem word h e = found_word relation_word word relations h e
 
 -- A field that names a relation is the word of what it names.
 pub word_of_named : (word : List ℕ) → is_some (relation_named word) ≡ true → relation_word (unwrap_or (relation_named word) Before) ≡ word

@@ -1,17 +1,23 @@
 -- Orders of the columns: no column stands twice, and fields and columns belong together.
-use Rattle.std.proofs.Common.{◌≡◌, ℕ, zero, suc, ◌+◌, Bool, true, false, not, ◌&&◌, ◌||◌, eqb, List, [], ◌∷◌, map, length, Some, None, sym, refl, ap, ◌∙◌, inl, inr, arith}
-use Rattle.std.proofs.lemmas.Bool.{false≢true, both_ways, not-true, and_parts, or_cases, or_parts, eqb-true, cases_Bool, cond-true, cond-false}
+use Rattle.std.proofs.Common.{◌≡◌, ℕ, zero, suc, ◌+◌, ◌<◌, get_or, suc-le-suc, Bool, true, false, not, ◌&&◌, ◌||◌, eqb, List, [], ◌∷◌, map, length, Some, None, IsSome, sym, refl, ap, ◌∙◌, inl, inr, arith}
+use Rattle.std.proofs.lemmas.Bool.{lt-ltb, false≢true, both_ways, not-true, and_parts, or_cases, or_parts, eqb-true, cases_Bool, cond-true, cond-false}
+use lib.ListN.{length-map}
+use Rattle.std.specs.List.{position, position_or_len, list_any}
+use Rattle.std.proofs.lemmas.List.{get_or-map}
+use Rattle.std.proofs.lemmas.List.Quantifiers.{position-Some}
+use Rattle.files.specs.declared.parts.Part.{Part}
 use Rattle.files.specs.declared.columns.RuleColumn.{RuleColumn}
+use Rattle.files.specs.contracts.columns.RuleColumnPartialEq.TheImpl.{ghosts}
 use Rattle.files.specs.declared.columns.RuleColumn.TheVariants.{Label, First, How, Second}
 use Rattle.files.specs.RuleFiles.{column_name, same_column, has_column, each_once, fits, misfit, first_misfit, bytes_under}
-use Rattle.rules.proofs.Texts.{same_text_is, same_text_lem}
+use Rattle.std.proofs.lemmas.Slice.Eq.{bytes_eq-Decides}
 use Rattle.files.proofs.Names.{column_found}
 
 -- ---- the same column
 
 same_column_lem : (c d : RuleColumn) → same_column c d ≡ true → c ≡ d
 same_column_lem c d h =
-    let e : column_name c ≡ column_name d = same_text_is (column_name c) (column_name d) h in
+    let e : column_name c ≡ column_name d = (bytes_eq-Decides (column_name c) (column_name d)).0 h in
     let a = column_found c in
     let b = column_found d in
     cc
@@ -85,6 +91,53 @@ under-map f c (d ∷ ds) h = elim (cases_Bool (same_column c d)) [
   | inr e ↦ cond-false (same_column c d) (f d) (bytes_under c ds (map f ds)) e ∙ under-map f c ds (has_later c d ds h e)
 ]
 
+under_at : (c : RuleColumn) (cs : List RuleColumn) (fs : List (List ℕ)) (i : ℕ) → i < length cs → length cs ≡ length fs → same_column c (get_or cs i Label) ≡ true →
+    ((k : ℕ) → k < i → same_column c (get_or cs k Label) ≡ false) → bytes_under c cs fs ≡ get_or fs i []
+under_at c [] fs i h l is others = absurd (omega arith)
+under_at c (d ∷ ds) [] i h l is others = absurd (omega arith)
+under_at c (d ∷ ds) (f ∷ fs) zero h l is others = cond-true (same_column c d) f (bytes_under c ds fs) is
+under_at c (d ∷ ds) (f ∷ fs) (suc i) h l is others =
+    cond-false (same_column c d) f (bytes_under c ds fs) (others 0 (omega arith))
+    ∙ under_at c ds fs i (omega arith) (omega arith) is (λ k b. others (suc k) (suc-le-suc b))
+
+-- The field under a column is the one at the place of the first such column.
+pub under_place : (c : RuleColumn) (cs : List RuleColumn) (ps : List Part) (i : ℕ) (d : Part) → length cs ≡ length ps → position (λ e. same_column c e) cs ≡ Some i →
+    (get_or ps i d).bytes.now ≡ bytes_under c cs (map (λ p. p.bytes.now) ps)
+under_place c cs ps i d l e =
+    let at = position-Some (λ e. same_column c e) cs i Label e in
+    sym (under_at c cs (map (λ p. p.bytes.now) ps) i at.0 (simp length-map l) at.1 at.2 ∙ get_or-map (λ p. p.bytes.now) ps i d [] (omega (arith, at.0)))
+
+has_first : (c : RuleColumn) (cs : List RuleColumn) → has_column c cs ≡ true → position_or_len (λ e. same_column c e) cs < length cs
+has_first c [] h = absurd (false≢true h)
+has_first c (d ∷ ds) h = elim (cases_Bool (same_column c d)) [
+  | inl e ↦ rw e (omega arith)
+  | inr e ↦ let more = has_first c ds (has_later c d ds h e) in rw e (omega arith)
+]
+
+-- A column that is there has a place.
+pub has_place : (c : RuleColumn) (cs : List RuleColumn) → has_column c cs ≡ true → IsSome (position (λ e. same_column c e) cs)
+has_place c cs h = rw (lt-ltb (position_or_len (λ e. same_column c e) cs) (length cs) (has_first c cs h)) refl
+
+alike : Bool → Bool → Bool
+alike true b = b
+alike false b = not b
+
+alike_is : (a b : Bool) → alike a b ≡ true → a ≡ b
+unfolding alike
+alike_is true b h = sym h
+alike_is false b h = sym (not-true b h)
+
+-- The comparison that is derived for columns.
+eq_same : (c d : RuleColumn) → ghosts.eq d c ≡ same_column c d
+unfolding alike
+eq_same c d = alike_is (ghosts.eq d c) (same_column c d)
+    (at_each (λ e. alike (ghosts.eq e c) (same_column c e)) (at_each (λ b. for_each (λ e. alike (ghosts.eq e b) (same_column b e))) refl c) d)
+
+-- Whether a column is there, as `contains` finds it.
+pub any_has : (c : RuleColumn) (cs : List RuleColumn) → list_any (λ d. ghosts.eq d c) cs ≡ has_column c cs
+any_has c [] = refl
+any_has c (d ∷ ds) = let one = eq_same c d in let more = any_has c ds in cc
+
 -- A column and its field in front change nothing under the columns es that are others.
 under_others : (d : RuleColumn) (f : List ℕ) (ds : List RuleColumn) (fs : List (List ℕ)) (es : List RuleColumn) → has_column d es ≡ false →
     map (λ c. bytes_under c (d ∷ ds) (f ∷ fs)) es ≡ map (λ c. bytes_under c ds fs) es
@@ -92,7 +145,7 @@ under_others d f ds fs [] h = refl
 under_others d f ds fs (e ∷ es) h =
     let n = or_parts (same_column d e) (has_column d es) h in
     let other : same_column e d ≡ false = elim (cases_Bool (same_column e d)) [
-      | inl y ↦ absurd (both_ways (same_column d e) n.0 (ap (same_column d) (same_column_lem e d y) ∙ same_text_lem (column_name d) (column_name d) refl))
+      | inl y ↦ absurd (both_ways (same_column d e) n.0 (ap (same_column d) (same_column_lem e d y) ∙ (bytes_eq-Decides (column_name d) (column_name d)).1 refl))
       | inr y ↦ y
     ] in
     let one = cond-false (same_column e d) f (bytes_under e ds fs) other in
@@ -106,7 +159,7 @@ under_each [] (f ∷ fs) h l = absurd (omega arith)
 under_each (c ∷ cs) [] h l = absurd (omega arith)
 under_each (c ∷ cs) (f ∷ fs) h l =
     let n = and_parts (not (has_column c cs)) (apart cs) h in
-    let one = cond-true (same_column c c) f (bytes_under c cs fs) (same_text_lem (column_name c) (column_name c) refl) in
+    let one = cond-true (same_column c c) f (bytes_under c cs fs) ((bytes_eq-Decides (column_name c) (column_name c)).1 refl) in
     let more = under_others c f cs fs cs (not-true (has_column c cs) n.0) ∙ under_each cs fs n.1 (omega arith) in
     cc
 

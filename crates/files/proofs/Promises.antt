@@ -18,15 +18,12 @@ use Rattle.files.specs.declared.fault.FileFault.TheVariants.{Overlong, Headless,
 use Rattle.files.specs.declared.fault.Report.{Report}
 use Rattle.files.specs.Answers.{Answers, Refuses, ToldOf}
 use Rattle.files.specs.Faults.{file_told, line_told}
-use Rattle.files.specs.RuleFiles.{rules, fault, each_once, parts_outcome, file_outcome, line_end, most_bytes}
+use Rattle.files.specs.RuleFiles.{fault, each_once, parts_outcome, file_outcome, line_end, most_bytes}
 use Rattle.files.specs.Parts.{split}
 use Rattle.files.specs.RuleTexts.{TextOf, Limited, all_spelt, rule_text}
 use Rattle.files.specs.RuleLaws.{AcceptsTexts, SameTable, ReadsBack}
-use Rattle.files.proofs.Lines.{fault_rules}
+use Rattle.files.proofs.Lines.{fault_rules, rules_same}
 use Rattle.files.proofs.WholeFiles.{says_its_text, texts_are_short}
-
-same_rules : (ws vs : List Written) → rules ws ≡ rules vs → ws ≡ vs
-same_rules ws vs e = cc
 
 -- ---- accepted exactly when it is a text
 
@@ -47,7 +44,7 @@ refused_no_text bytes Overlong h s ws t free = fault_no_text bytes refusal.Overf
 refused_no_text bytes Headless h s ws t free = fault_no_text bytes refusal.Headless 1 0 h ws t
 refused_no_text bytes (Line f) h s ws t free = lines_no_text bytes (line_told f) h.0 s h.1 ws t
 refused_no_text bytes (Ringed line) h s ws t free =
-    let e : h.0 ≡ ws = same_rules h.0 ws (sym h.2 ∙ (says_its_text bytes ws).1 t) in
+    let e : h.0 ≡ ws = rules_same h.0 ws (sym h.2 ∙ (says_its_text bytes ws).1 t) in
     free (h.1.0 - 1) (subst (λ (vs : List Written). Barred (rules_of vs) (h.1.0 - 1)) e h.3.barred)
 refused_no_text bytes OutOfMemory h s ws t free = false≢true s
 
@@ -93,7 +90,7 @@ same_written t u e =
 
 pub reads_back : (bytes : List ℕ) (r : Result Table FileFault) → Answers bytes r → ReadsBack bytes r
 reads_back bytes (Ok u) h t cs once e =
-    same_written t u (same_rules (tabled u) (tabled t) (sym h ∙ (says_its_text bytes (tabled t)).1 (table_text t cs bytes once e)))
+    same_written t u (rules_same (tabled u) (tabled t) (sym h ∙ (says_its_text bytes (tabled t)).1 (table_text t cs bytes once e)))
 reads_back bytes (Err what) h t cs once e = elim (cases_Bool (is_some (file_told what))) [
   | inl s ↦ absurd (refused_no_text bytes what h s (tabled t) (table_text t cs bytes once e) (table_free t))
   | inr s ↦ s

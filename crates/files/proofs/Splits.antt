@@ -2,6 +2,7 @@
 use Rattle.std.proofs.Common.{◌≡◌, ℕ, ◌<◌, true, false, not, eqb, List, [], ◌∷◌, ◌++◌, length, sym, refl, ap, ◌∙◌, inl, inr, arith, length-append}
 use Rattle.std.proofs.lemmas.Bool.{and_parts, and_from, eqb-true, eq-eqb, cases_Bool, cond-true, cond-false, not-true, not_from_false}
 use Rattle.files.specs.Parts.{in_front, split, joined, ended}
+use Rattle.files.proofs.Cutting.{split_some}
 use Rattle.files.proofs.Texts.{lacks, all_lack, lacks-append}
 
 -- ---- a text and its parts
@@ -15,18 +16,6 @@ joined_in_front b x (p ∷ q ∷ ps) = refl
 joined_first : (b : ℕ) (p : List ℕ) (ps : List (List ℕ)) → 0 < length ps → joined b (p ∷ ps) ≡ p ++ (b ∷ joined b ps)
 joined_first b p [] h = absurd (omega arith)
 joined_first b p (q ∷ ps) h = refl
-
-in_front_some : (x : ℕ) (ps : List (List ℕ)) → 0 < length (in_front x ps)
-in_front_some x [] = omega arith
-in_front_some x (p ∷ ps) = omega arith
-
--- There is at least one part.
-split_some : (b : ℕ) (xs : List ℕ) → 0 < length (split b xs)
-split_some b [] = omega arith
-split_some b (x ∷ xs) = elim (cases_Bool (eqb x b)) [
-  | inl e ↦ rw (cond-true (eqb x b) ([] ∷ split b xs) (in_front x (split b xs)) e) (omega arith)
-  | inr e ↦ rw (cond-false (eqb x b) ([] ∷ split b xs) (in_front x (split b xs)) e) (in_front_some x (split b xs))
-]
 
 -- The parts joined are the text.
 pub joined_split : (b : ℕ) (xs : List ℕ) → joined b (split b xs) ≡ xs

@@ -4,6 +4,8 @@ use Rattle.terms.specs.declared.refusal.Refusal.{Refusal}
 use Rattle.terms.specs.declared.refusal.Refusal.TheVariants as refusal
 use Rattle.terms.specs.declared.refusal.Refusal.TheVariants.{Unended, Overfull}
 use Rattle.terms.specs.declared.numbers.RuleNo.{RuleNo}
+use Rattle.rules.specs.declared.rule.RuleWords.{RuleWords}
+use Rattle.rules.specs.Drafts.{said_by}
 use Rattle.rules.specs.Written.{Written, spelt, room_for, rules_of}
 use Rattle.rules.specs.declared.table.Table.{Table}
 use Rattle.rules.specs.Tables.{tabled}
@@ -18,17 +20,11 @@ use Rattle.files.specs.declared.fault.LineFault.{LineFault}
 use Rattle.files.specs.declared.fault.FileFault.{FileFault}
 use Rattle.files.specs.declared.fault.FileFault.TheVariants.{Overlong, Headless, Line, Ringed, OutOfMemory}
 use Rattle.files.specs.declared.fault.Report.{Report}
-use Rattle.files.specs.declared.rule_file.RuleWords.{RuleWords}
-use Rattle.files.specs.RuleFiles.{Outcome, rules, fault, fits, misfit, first_misfit, rule_in, line_outcome, parts_outcome, file_outcome, column_order, each_once, line_end, most_bytes}
+use Rattle.files.specs.RuleFiles.{Outcome, rules, fault, fits, misfit, first_misfit, rule_in, line_outcome, parts_outcome, file_outcome, column_order, line_end, most_bytes}
 use Rattle.files.specs.Parts.{split}
-use Rattle.files.specs.Columns.{in_order}
 use Rattle.files.specs.Cells.{bytes_in}
 use Rattle.files.specs.Cursors.{lines_left, any_left}
 use Rattle.files.specs.Faults.{field_told, line_told, reported}
-
--- The rule that the words say.
-abbrev pub said_by : RuleWords → Written
-said_by w = record { label = w.label.now; first = w.first.now; how = w.how; second = w.second.now }
 
 -- The outcome is the fault that is told. Where none is told, there was no memory for one more rule that nothing refuses.
 abbrev pub Told : List Written → Outcome → Option Report → Type 0
@@ -44,13 +40,13 @@ pub record MisfitAt (column : RuleColumn) (cell : Part) (what : FieldFault) : Ty
 pub record Misfits (order : ColumnOrder) (cells : Cells) (what : FieldFault) : Type 0 where
   pub refusal : Refusal
   pub column : ℕ
-  pub first : first_misfit 1 (in_order order) (bytes_in cells) ≡ Some (refusal, column)
-  pub told : field_told what ≡ reported refusal cells.0.line column
+  pub first : first_misfit 1 order.columns (bytes_in cells) ≡ Some (refusal, column)
+  pub told : field_told what ≡ reported refusal cells.line column
 
 -- No field is wrong, and these are the words of the rule.
 pub record Reads (order : ColumnOrder) (cells : Cells) (words : RuleWords) : Type 0 where
-  pub right : first_misfit 1 (in_order order) (bytes_in cells) ≡ None
-  pub rule : said_by words ≡ rule_in (in_order order) (bytes_in cells)
+  pub right : first_misfit 1 order.columns (bytes_in cells) ≡ None
+  pub rule : said_by words ≡ rule_in order.columns (bytes_in cells)
   pub labels : spelt (said_by words) ≡ true
 
 -- After the rules ws reading goes on with more, or stops at the fault.
@@ -91,10 +87,8 @@ pub record HeadRead (from to : Lines) (order : ColumnOrder) : Type 0 where
   pub names : List ℕ
   pub lines : lines_left from ≡ names ∷ lines_left to
   pub any : any_left (lines_left to) ≡ true
-  pub gives : column_order names ≡ Some (in_order order)
-  pub once : each_once (in_order order) ≡ true
+  pub gives : column_order names ≡ Some order.columns
   pub next_number : to.number ≡ from.number + 1
-  pub fewer : length (lines_left to) ≤ length (lines_left from)
 
 -- There is none, or it is wrong.
 pub record HeadWrong (from : Lines) (what : FileFault) : Type 0 where

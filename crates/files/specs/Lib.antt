@@ -5,7 +5,7 @@ pub mod Cursors
 pub mod Faults
 pub mod Fields
 pub mod Cells
-pub mod Columns
 pub mod Answers
 pub mod RuleLaws
 pub mod Verdicts
+pub mod Laws

@@ -1,5 +1,6 @@
 -- A text cut at a byte, and put together again.
-use Rattle.std.specs.Prelude.{ℕ, cond, List, [], ◌∷◌, ◌++◌, ◌==◌}
+use Rattle.std.specs.Prelude.{ℕ, cond, List, [], ◌∷◌, ◌++◌, ◌==◌, Some, None, Option}
+use Rattle.std.specs.Borrow.{Bor}
 
 -- The byte in front of the first part.
 abbrev pub in_front : ℕ → List (List ℕ) → List (List ℕ)
@@ -10,6 +11,11 @@ in_front x (p ∷ ps) = (x ∷ p) ∷ ps
 abbrev pub split : ℕ → List ℕ → List (List ℕ)
 split b [] = [] ∷ []
 split b (x ∷ xs) = cond (x == b) ([] ∷ split b xs) (in_front x (split b xs))
+
+-- The parts of what is left of a text, if something is.
+abbrev pub parts_left : ℕ → Option (Bor (List ℕ)) → List (List ℕ)
+parts_left b None = []
+parts_left b (Some rest) = split b rest.now
 
 -- The parts with the byte b between them.
 abbrev pub joined : ℕ → List (List ℕ) → List ℕ

@@ -4,7 +4,8 @@ use Rattle.std.specs.Option.{unwrap_or}
 use Rattle.terms.specs.declared.refusal.Refusal.{Refusal}
 use Rattle.terms.specs.declared.refusal.Refusal.TheVariants.{Headless, Ragged, Misspelt, Unrelated, Overfull, Unended}
 use Rattle.rules.specs.declared.relation.Relation.TheVariants.{Before}
-use Rattle.rules.specs.Texts.{same_text}
+use Rattle.std.specs.Str.{bytes_eq}
+use Rattle.terms.specs.Words.{first_with}
 use Rattle.rules.specs.Labels.{is_label}
 use Rattle.rules.specs.Relations.{relation_named}
 use Rattle.rules.specs.Written.{Written, room_for}
@@ -27,16 +28,16 @@ column_name First = codes "first"
 column_name How = codes "how"
 column_name Second = codes "second"
 
+-- All four.
+abbrev pub columns : List RuleColumn
+columns = Label ∷ First ∷ How ∷ Second ∷ []
+
 -- The column that has the name, if one has.
 abbrev pub column_named : List ℕ → Option RuleColumn
-column_named name =
-    cond (same_text (column_name Label) name) (Some Label) (
-    cond (same_text (column_name First) name) (Some First) (
-    cond (same_text (column_name How) name) (Some How) (
-    cond (same_text (column_name Second) name) (Some Second) None)))
+column_named name = first_with column_name columns name
 
 abbrev pub same_column : RuleColumn → RuleColumn → Bool
-same_column c d = same_text (column_name c) (column_name d)
+same_column c d = bytes_eq (column_name c) (column_name d)
 
 abbrev pub has_column : RuleColumn → List RuleColumn → Bool
 has_column c [] = false

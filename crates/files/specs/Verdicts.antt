@@ -1,11 +1,13 @@
 -- The text that tells of a rule file: the numbers of what was accepted, or the refusal.
-use Rattle.std.specs.Prelude.{◌≡◌, ℕ, Bool, true, false, List, [], ◌∷◌, ◌++◌, length, Some, Ok, Err, string_bytes, codes, decimal}
+use Rattle.std.specs.Prelude.{◌≡◌, ⊤, ℕ, List, [], ◌∷◌, ◌++◌, length, Some, Ok, Err, Result, String, string_bytes, codes, decimal}
+use Rattle.std.specs.declared.alloc.Global.{Global}
 use Rattle.terms.specs.Refusals.{number_of}
 use Rattle.rules.specs.declared.table.Table.{Table}
 use Rattle.rules.specs.Tables.{names_in, rules_in, groups_in, Closed}
 use Rattle.files.specs.declared.fault.FileFault.{FileFault}
 use Rattle.files.specs.declared.fault.Report.{Report}
-use Rattle.files.specs.declared.verdict.Verdict.{Verdict}
+use Rattle.files.specs.declared.telling.CheckFault.{CheckFault}
+use Rattle.files.specs.declared.telling.CheckFault.TheVariants.{Refused, OutOfMemory}
 use Rattle.files.specs.Answers.{Answers}
 use Rattle.files.specs.Faults.{file_told}
 use Rattle.files.specs.RuleFiles.{comma, line_end}
@@ -35,9 +37,8 @@ pub record RefusedAs (bytes : List ℕ) (text : List ℕ) : Type 0 where
   pub told : file_told what ≡ Some report
   pub written : text ≡ refusal_text 1 report
 
-abbrev pub Says : List ℕ → Bool → List ℕ → Type 0
-Says bytes true text = AcceptedAs bytes text
-Says bytes false text = RefusedAs bytes text
-
-abbrev pub VerdictOf : List ℕ → Verdict → Type 0
-VerdictOf bytes v = Says bytes v.accepted (string_bytes v.text)
+-- The text is that of the file, accepted or refused. Of a want of memory nothing is said.
+abbrev pub VerdictOf : List ℕ → Result (String Global) CheckFault → Type 0
+VerdictOf bytes (Ok text) = AcceptedAs bytes (string_bytes text)
+VerdictOf bytes (Err (Refused text)) = RefusedAs bytes (string_bytes text)
+VerdictOf bytes (Err OutOfMemory) = ⊤

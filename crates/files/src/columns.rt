@@ -1,15 +1,13 @@
-ghost use Rattle.std.specs.Prelude.{◌≡◌};
-ghost use Rattle.files.specs.RuleFiles.{column_name, column_named, same_column, has_column, each_once, column_order};
-ghost use Rattle.files.specs.Cells.{Whole};
-ghost use Rattle.files.specs.Columns.{in_order, Ordered, cell_under, field_for};
+ghost use Rattle.std.specs.Prelude.{◌≡◌, true, position};
+ghost use Rattle.files.specs.RuleFiles.{column_name, columns, same_column, has_column, each_once, column_order, bytes_under};
+ghost use Rattle.files.specs.Laws.Columns.{columns_complete};
 
-use crate::cells::{Cells, four_fields};
-use crate::field::Field;
+use crate::cells::Cells;
 use crate::parts::{Line, Part};
-use rules::same_text;
+use terms::Worded;
 
 // The columns of a rule file. A file names each once, in any order.
-#[derive(Clone, Copy, PartialEq, Eq)]
+#[derive(Clone, Copy, PartialEq, Eq, Debug)]
 pub enum RuleColumn {
     Label,
     First,
@@ -17,11 +15,27 @@ pub enum RuleColumn {
     Second,
 }
 
-impl RuleColumn {
-    // The name in the names line.
-    pub fn name(self) -> &'static str
-        ensures { result.now ≡ column_name self }
-    {
+// All columns, each once.
+const ALL: [RuleColumn; 4] = [
+    RuleColumn::Label,
+    RuleColumn::First,
+    RuleColumn::How,
+    RuleColumn::Second,
+];
+
+// The names in the names line.
+impl Worded for RuleColumn {
+    ghost spelling = { column_name };
+
+    ghost every = { columns };
+
+    ghost complete = { columns_complete };
+
+    fn all() -> &'static [RuleColumn] {
+        &ALL
+    }
+
+    fn word(self) -> &'static str {
         match self {
             RuleColumn::Label => "label",
             RuleColumn::First => "first",
@@ -29,97 +43,68 @@ impl RuleColumn {
             RuleColumn::Second => "second",
         }
     }
-
-    // The column of that name, if one has it.
-    pub fn named(name: &[u8]) -> Option<RuleColumn>
-        ensures { result ≡ column_named name.now }
-    {
-        if same_text(RuleColumn::Label.name().as_bytes(), name) {
-            return Some(RuleColumn::Label);
-        }
-        if same_text(RuleColumn::First.name().as_bytes(), name) {
-            return Some(RuleColumn::First);
-        }
-        if same_text(RuleColumn::How.name().as_bytes(), name) {
-            return Some(RuleColumn::How);
-        }
-        if same_text(RuleColumn::Second.name().as_bytes(), name) {
-            return Some(RuleColumn::Second);
-        }
-        None
-    }
-
-    fn is(self, other: RuleColumn) -> bool
-        ensures { result ≡ same_column self other }
-    {
-        self == other
-    }
-}
-
-// What a part of the file is to say under a column.
-pub(crate) fn field_under(column: RuleColumn, part: Part<'_>) -> Field<'_>
-    ensures { result ≡ field_for column part.entry }
-{
-    match column {
-        RuleColumn::How => Field::How(part),
-        _ => Field::Label(part),
-    }
 }
 
 // The columns in the order of a names line, from the left.
 #[derive(Clone, Copy)]
-pub(crate) struct ColumnOrder(
-    pub RuleColumn,
-    pub RuleColumn,
-    pub RuleColumn,
-    pub RuleColumn,
-);
+pub(crate) struct ColumnOrder {
+    pub columns: [RuleColumn; 4],
+    ghost once: { each_once columns ≡ true },
+}
+
+// Whether the column is among them.
+fn has(columns: &[RuleColumn; 4], column: RuleColumn) -> bool
+    ensures { result ≡ has_column column columns.now }
+{
+    columns.contains(&column)
+}
+
+// Whether each of the four columns is there, and so once.
+fn has_each(columns: &[RuleColumn; 4]) -> bool
+    ensures { result ≡ each_once columns.now }
+{
+    ALL.iter().all(|column| has(columns, *column))
+}
 
 impl ColumnOrder {
-    fn has(self, column: RuleColumn) -> bool
-        ensures { result ≡ has_column column (in_order self) }
-    {
-        column.is(self.0) || column.is(self.1) || column.is(self.2) || column.is(self.3)
-    }
+    ghost use Rattle.std.specs.Prelude.{if◌then◌else◌, Some, None};
+    ghost use Rattle.std.specs.Option.{option_map};
+    ghost use Rattle.files.specs.Cells.{bytes_in};
 
-    // Whether each of the four columns is there, and so once.
-    fn has_each(self) -> bool
-        ensures { result ≡ each_once (in_order self) }
+    // The order of the columns, if each of the four is there. It is made after the test and not by `then_some`, since its type says what was tested.
+    fn of(columns: [RuleColumn; 4]) -> Option<ColumnOrder>
+        ensures { option_map (λ order. order.columns) result ≡ (if each_once columns then Some columns else None) }
     {
-        self.has(RuleColumn::Label)
-            && self.has(RuleColumn::First)
-            && self.has(RuleColumn::How)
-            && self.has(RuleColumn::Second)
+        if !has_each(&columns) {
+            return None;
+        }
+        Some(ColumnOrder { columns })
     }
 
     // The order that a names line gives; none if the line is wrong.
     pub(crate) fn read(line: Line<'_>) -> Option<ColumnOrder>
-        requires { Whole line }
-        ensures { Ordered (column_order line.entry.rest.now) result }
+        ensures { option_map (λ order. order.columns) result ≡ column_order line.entry.bytes.now }
     {
-        let Ok(fields) = four_fields(line) else {
-            return None;
-        };
-        let one = RuleColumn::named(fields.0.bytes)?;
-        let two = RuleColumn::named(fields.1.bytes)?;
-        let three = RuleColumn::named(fields.2.bytes)?;
-        let four = RuleColumn::named(fields.3.bytes)?;
-        let order = ColumnOrder(one, two, three, four);
-        if order.has_each() { Some(order) } else { None }
+        let [one, two, three, four] = Cells::read(line).ok()?.parts;
+        ColumnOrder::of([
+            RuleColumn::from_word(one.bytes)?,
+            RuleColumn::from_word(two.bytes)?,
+            RuleColumn::from_word(three.bytes)?,
+            RuleColumn::from_word(four.bytes)?,
+        ])
+    }
+
+    // The column's place from the left, from 0.
+    fn place(self, column: RuleColumn) -> Option<usize>
+        ensures { result ≡ position (λ c. same_column column c) self.columns }
+    {
+        self.columns.iter().position(|c| column == *c)
     }
 
     // The cell under the column, which is one of the four.
     pub(crate) fn cell<'a>(self, cells: Cells<'a>, column: RuleColumn) -> Part<'a>
-        ensures { result ≡ cell_under column self cells.entry }
+        ensures { result.bytes.now ≡ bytes_under column self.columns (bytes_in cells.entry) }
     {
-        if column.is(self.0) {
-            cells.0
-        } else if column.is(self.1) {
-            cells.1
-        } else if column.is(self.2) {
-            cells.2
-        } else {
-            cells.3
-        }
+        cells.parts[self.place(column).unwrap()]
     }
 }

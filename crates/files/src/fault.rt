@@ -1,5 +1,5 @@
 ghost use Rattle.std.specs.Prelude.{◌≡◌};
-ghost use Rattle.files.specs.Faults.{field_told, line_told, file_told, unclosed};
+ghost use Rattle.files.specs.Faults.{reported, field_told, line_told, file_told, unclosed};
 ghost use Rattle.files.specs.declared.fault.LineFault.TheVariants.{Field as ofField};
 ghost use Rattle.files.specs.declared.fault.FileFault.TheVariants.{Line as ofLine};
 
@@ -89,36 +89,34 @@ impl From<CloseFault> for FileFault {
     }
 }
 
+impl Report {
+    // The report of a whole line, or with line 0 of a whole file.
+    fn of_line(refusal: Refusal, line: usize) -> Report
+        ensures { result ≡ reported refusal line 0 }
+    {
+        Report {
+            refusal,
+            line,
+            column: 0,
+        }
+    }
+}
+
 impl FieldFault {
     pub fn report(self) -> Report
         ensures { result ≡ field_told self }
     {
-        match self {
-            FieldFault::Misspelt { line, column } => Report {
-                refusal: Refusal::Misspelt,
-                line,
-                column,
-            },
-            FieldFault::Unrelated { line, column } => Report {
-                refusal: Refusal::Unrelated,
-                line,
-                column,
-            },
-            FieldFault::NoAct { line, column } => Report {
-                refusal: Refusal::NoAct,
-                line,
-                column,
-            },
-            FieldFault::Undated { line, column } => Report {
-                refusal: Refusal::Undated,
-                line,
-                column,
-            },
-            FieldFault::Stranger { line, column } => Report {
-                refusal: Refusal::Stranger,
-                line,
-                column,
-            },
+        let (refusal, line, column) = match self {
+            FieldFault::Misspelt { line, column } => (Refusal::Misspelt, line, column),
+            FieldFault::Unrelated { line, column } => (Refusal::Unrelated, line, column),
+            FieldFault::NoAct { line, column } => (Refusal::NoAct, line, column),
+            FieldFault::Undated { line, column } => (Refusal::Undated, line, column),
+            FieldFault::Stranger { line, column } => (Refusal::Stranger, line, column),
+        };
+        Report {
+            refusal,
+            line,
+            column,
         }
     }
 }
@@ -129,21 +127,9 @@ impl LineFault {
         ensures { result ≡ line_told self }
     {
         match self {
-            LineFault::Unended { line } => Some(Report {
-                refusal: Refusal::Unended,
-                line,
-                column: 0,
-            }),
-            LineFault::Ragged { line } => Some(Report {
-                refusal: Refusal::Ragged,
-                line,
-                column: 0,
-            }),
-            LineFault::Overfull { line } => Some(Report {
-                refusal: Refusal::Overfull,
-                line,
-                column: 0,
-            }),
+            LineFault::Unended { line } => Some(Report::of_line(Refusal::Unended, line)),
+            LineFault::Ragged { line } => Some(Report::of_line(Refusal::Ragged, line)),
+            LineFault::Overfull { line } => Some(Report::of_line(Refusal::Overfull, line)),
             LineFault::Field(fault) => Some(fault.report()),
             LineFault::OutOfMemory => None,
         }
@@ -156,22 +142,10 @@ impl FileFault {
         ensures { result ≡ file_told self }
     {
         match self {
-            FileFault::Overlong => Some(Report {
-                refusal: Refusal::Overfull,
-                line: 0,
-                column: 0,
-            }),
-            FileFault::Headless => Some(Report {
-                refusal: Refusal::Headless,
-                line: 1,
-                column: 0,
-            }),
+            FileFault::Overlong => Some(Report::of_line(Refusal::Overfull, 0)),
+            FileFault::Headless => Some(Report::of_line(Refusal::Headless, 1)),
             FileFault::Line(fault) => fault.report(),
-            FileFault::Ringed { line } => Some(Report {
-                refusal: Refusal::Ringed,
-                line,
-                column: 0,
-            }),
+            FileFault::Ringed { line } => Some(Report::of_line(Refusal::Ringed, line)),
             FileFault::OutOfMemory => None,
         }
     }

@@ -1,11 +1,14 @@
-ghost use Rattle.std.specs.Prelude.{◌≡◌, true, false, Some, None, MatchResult};
+ghost use Rattle.std.specs.Prelude.{◌≡◌, Some, is_some, IfOk};
+ghost use Rattle.std.specs.Result.{is_ok, IfErr, result_err};
 ghost use Rattle.rules.specs.Labels.{is_label};
 ghost use Rattle.rules.specs.Relations.{relation_named};
-ghost use Rattle.files.specs.Fields.{fault_in};
+ghost use Rattle.files.specs.Fields.{field_for, fault_in};
 
+use crate::columns::RuleColumn;
 use crate::fault::FieldFault;
 use crate::parts::Part;
 use rules::{Relation, read_label};
+use terms::Worded;
 
 // A field as the part of the file that it is, by what it is to say.
 #[derive(Clone, Copy)]
@@ -19,45 +22,47 @@ pub enum Field<'a> {
 impl<'a> Part<'a> {
     // The label that the part is.
     pub fn label(self) -> Result<&'a str, FieldFault>
-        ensures { MatchResult result (λ text. (text.now ≡ self.entry.bytes.now) × (is_label self.entry.bytes.now ≡ true)) (λ fault. (is_label self.entry.bytes.now ≡ false) × (fault ≡ FieldFault.Misspelt self.entry.line self.entry.column)) }
+        ensures accepts { is_ok result ≡ is_label self.entry.bytes.now }
+        ensures text { IfOk result (λ text. text.now ≡ self.entry.bytes.now) }
+        ensures fault { IfErr result (λ fault. fault ≡ FieldFault.Misspelt self.entry.line self.entry.column) }
     {
-        match read_label(self.bytes) {
-            Some(text) => Ok(text),
-            None => Err(FieldFault::Misspelt {
-                line: self.line,
-                column: self.column,
-            }),
-        }
+        read_label(self.bytes).ok_or(FieldFault::Misspelt {
+            line: self.line,
+            column: self.column,
+        })
     }
 
     // The relation whose word the part is.
     pub fn relation(self) -> Result<Relation, FieldFault>
-        ensures { MatchResult result (λ how. relation_named self.entry.bytes.now ≡ Some how) (λ fault. (relation_named self.entry.bytes.now ≡ None) × (fault ≡ FieldFault.Unrelated self.entry.line self.entry.column)) }
+        ensures accepts { is_ok result ≡ is_some (relation_named self.entry.bytes.now) }
+        ensures relation { IfOk result (λ how. relation_named self.entry.bytes.now ≡ Some how) }
+        ensures fault { IfErr result (λ fault. fault ≡ FieldFault.Unrelated self.entry.line self.entry.column) }
     {
-        match Relation::from_word(self.bytes) {
-            Some(how) => Ok(how),
-            None => Err(FieldFault::Unrelated {
-                line: self.line,
-                column: self.column,
-            }),
-        }
+        Relation::from_word(self.bytes).ok_or(FieldFault::Unrelated {
+            line: self.line,
+            column: self.column,
+        })
     }
 }
 
-impl Field<'_> {
+impl<'a> Field<'a> {
+    // What a part of the file is to say under a column.
+    pub(crate) fn under(column: RuleColumn, part: Part<'a>) -> Field<'a>
+        ensures { result ≡ field_for column part.entry }
+    {
+        match column {
+            RuleColumn::How => Field::How(part),
+            _ => Field::Label(part),
+        }
+    }
+
     // What is wrong with the field in a rule file, which has labels and relation words alone.
     pub(crate) fn check_in_rule(self) -> Result<(), FieldFault>
-        ensures { MatchResult result (λ _. fault_in self.entry ≡ None) (λ fault. fault_in self.entry ≡ Some fault) }
+        ensures { result_err result ≡ fault_in self.entry }
     {
         match self {
-            Field::Label(part) => {
-                part.label()?;
-                Ok(())
-            }
-            Field::How(part) => {
-                part.relation()?;
-                Ok(())
-            }
+            Field::Label(part) => part.label().map(|_| ()),
+            Field::How(part) => part.relation().map(|_| ()),
             Field::Act(_) | Field::When(_) => Ok(()),
         }
     }

@@ -8,12 +8,10 @@ mod field;
 mod parts;
 mod rule_file;
 mod telling;
-mod verdict;
 
 pub use columns::RuleColumn;
 pub use fault::{FieldFault, FileFault, LineFault, Report};
 pub use field::Field;
 pub use parts::Part;
 pub use rule_file::read_rules;
-pub use telling::{check_rules, refusal_text};
-pub use verdict::Verdict;
+pub use telling::{CheckFault, check_rules, refusal_text};

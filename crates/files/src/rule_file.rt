@@ -1,55 +1,43 @@
-ghost use Rattle.std.specs.Prelude.{◌≡◌, ◌+◌, ◌^◌, ◌<◌, true, length, None, MatchResult};
+ghost use Rattle.std.specs.Prelude.{◌≡◌, true, None, MatchResult};
 ghost use Rattle.rules.specs.Written.{spelt};
-ghost use Rattle.rules.specs.Drafts.{drafted};
-ghost use Rattle.files.specs.Cells.{Whole, StandIn, bytes_in};
-ghost use Rattle.files.specs.Columns.{in_order};
+ghost use Rattle.rules.specs.Drafts.{drafted, said_by};
+ghost use Rattle.files.specs.Cells.{bytes_in};
 ghost use Rattle.files.specs.Cursors.{lines_left};
-ghost use Rattle.files.specs.RuleFiles.{each_once, fits, first_misfit, lines_outcome, file_outcome, rules};
+ghost use Rattle.files.specs.RuleFiles.{fits, first_misfit, lines_outcome, file_outcome, rules};
 ghost use Rattle.files.specs.Faults.{unadded};
 ghost use Rattle.files.specs.RuleLaws.{AcceptsTexts, ReadsBack};
-ghost use Rattle.files.specs.Answers.{said_by, MisfitAt, Misfits, Reads, GoesOn, GoesThrough, add_outcome, rest_outcome, HeadRead, HeadWrong, Refuses, Answers};
+ghost use Rattle.files.specs.Answers.{MisfitAt, Misfits, Reads, GoesOn, GoesThrough, add_outcome, rest_outcome, HeadRead, HeadWrong, Refuses, Answers};
 
-use crate::cells::{Cells, four_fields};
-use crate::columns::{ColumnOrder, RuleColumn, field_under};
+use crate::cells::Cells;
+use crate::columns::{ColumnOrder, RuleColumn};
 use crate::fault::{FieldFault, FileFault, LineFault};
+use crate::field::Field;
 use crate::parts::{Line, Lines, Part};
-use rules::{AddFault, Draft, Relation, Table};
+use rules::{AddFault, Draft, RuleWords, Table};
 use std::alloc::Global;
 
 // The most bytes that a file has.
 const MOST_BYTES: usize = 32768;
 
-// A rule as a line says it.
-#[derive(Clone, Copy)]
-pub(crate) struct RuleWords<'a> {
-    pub label: &'a str,
-    pub first: &'a str,
-    pub how: Relation,
-    pub second: &'a str,
-}
-
 // A field that is wrong under its column is refused.
 fn check_cell(column: RuleColumn, cell: Part<'_>) -> Result<(), FieldFault>
     ensures { MatchResult result (λ _. fits column cell.entry.bytes.now ≡ true) (MisfitAt column cell.entry) }
 {
-    field_under(column, cell).check_in_rule()
+    Field::under(column, cell).check_in_rule()
 }
 
 // The first wrong field from the left is refused.
 fn check_cells(order: ColumnOrder, cells: Cells<'_>) -> Result<(), FieldFault>
-    requires { StandIn cells.0.line cells }
-    ensures { MatchResult result (λ _. first_misfit 1 (in_order order) (bytes_in cells.entry) ≡ None) (Misfits order cells.entry) }
+    ensures { MatchResult result (λ _. first_misfit 1 order.columns (bytes_in cells.entry) ≡ None) (Misfits order cells.entry) }
 {
-    check_cell(order.0, cells.0)?;
-    check_cell(order.1, cells.1)?;
-    check_cell(order.2, cells.2)?;
-    check_cell(order.3, cells.3)?;
+    for (column, cell) in order.columns.iter().zip(&cells.parts) {
+        check_cell(*column, *cell)?;
+    }
     Ok(())
 }
 
 // The rule that the fields say. They are looked at from the left first, so that the first wrong one is refused.
 fn read_rule<'a>(order: ColumnOrder, cells: Cells<'a>) -> Result<RuleWords<'a>, FieldFault>
-    requires { (StandIn cells.0.line cells) × (each_once (in_order order) ≡ true) }
     ensures { MatchResult result (Reads order cells.entry) (Misfits order cells.entry) }
 {
     check_cells(order, cells)?;
@@ -70,10 +58,8 @@ fn add_rule(draft: &mut Draft, words: RuleWords<'_>, line: usize) -> Result<(), 
     requires { spelt (said_by words) ≡ true }
     ensures { GoesOn (drafted draft.old) (add_outcome line (drafted draft.old) (said_by words.entry)) (drafted draft.new) result }
 {
-    match draft.add(words.label, words.first, words.how, words.second) {
-        Ok(_) => Ok(()),
-        Err(why) => Err(unadded_in(why, line)),
-    }
+    draft.add(words).map_err(|why| unadded_in(why, line))?;
+    Ok(())
 }
 
 // The fault of a line whose rule was not added, where its labels are labels.
@@ -88,27 +74,24 @@ fn unadded_in(why: AddFault, line: usize) -> LineFault
 
 // Reads a line of values into the draft. What stands after the last line end is nothing, or a line without its end.
 fn read_line(line: Line<'_>, order: ColumnOrder, draft: &mut Draft) -> Result<(), LineFault>
-    requires { (Whole line) × (each_once (in_order order) ≡ true) }
-    ensures { GoesOn (drafted draft.old) (rest_outcome (in_order order) line.entry.number (drafted draft.old) line.entry.ended line.entry.rest.now) (drafted draft.new) result }
+    ensures { GoesOn (drafted draft.old) (rest_outcome order.columns line.entry.number (drafted draft.old) line.entry.ended line.entry.bytes.now) (drafted draft.new) result }
 {
-    let number = line.number;
     if !line.ended {
-        if line.rest.is_empty() {
+        if line.bytes.is_empty() {
             return Ok(());
         }
-        return Err(LineFault::Unended { line: number });
+        return Err(LineFault::Unended { line: line.number });
     }
-    let cells = four_fields(line)?;
+    let cells = Cells::read(line)?;
     let words = read_rule(order, cells)?;
-    add_rule(draft, words, number)
+    add_rule(draft, words, cells.line)
 }
 
 // Reads the lines of values into the draft, up to the first that is wrong.
-fn read_lines(mut lines: Lines<'_>, order: ColumnOrder, draft: &mut Draft) -> Result<(), LineFault>
-    requires { (each_once (in_order order) ≡ true) × (lines.number + length (lines_left lines) < 2 ^ 63) }
-    ensures { GoesThrough (lines_outcome (in_order order) lines.entry.number (drafted draft.old)) (lines_left lines.entry) (drafted draft.new) result }
+fn read_lines(lines: Lines<'_>, order: ColumnOrder, draft: &mut Draft) -> Result<(), LineFault>
+    ensures { GoesThrough (lines_outcome order.columns lines.entry.number (drafted draft.old)) (lines_left lines.entry) (drafted draft.new) result }
 {
-    while let Some(line) = lines.next_line() {
+    for line in lines {
         read_line(line, order, draft)?;
     }
     Ok(())
@@ -116,19 +99,13 @@ fn read_lines(mut lines: Lines<'_>, order: ColumnOrder, draft: &mut Draft) -> Re
 
 // The order of the columns, from the first line, which has its line end.
 fn read_head(lines: &mut Lines<'_>) -> Result<ColumnOrder, FileFault>
-    requires { lines.old.number + 1 < 2 ^ 64 }
     ensures { MatchResult result (HeadRead lines.old lines.new) (HeadWrong lines.old) }
 {
-    let Some(line) = lines.next_line() else {
-        return Err(FileFault::Headless);
-    };
-    if !line.ended {
-        return Err(FileFault::Headless);
-    }
-    let Some(order) = ColumnOrder::read(line) else {
-        return Err(FileFault::Headless);
-    };
-    Ok(order)
+    lines
+        .next()
+        .filter(|line| line.ended)
+        .and_then(ColumnOrder::read)
+        .ok_or(FileFault::Headless)
 }
 
 // The rules that a file says, or the file's first fault.

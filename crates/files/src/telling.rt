@@ -1,17 +1,34 @@
 ghost use Rattle.std.specs.Prelude.{◌≡◌, IfOk, string_bytes};
 ghost use Rattle.files.specs.Verdicts.{counts_text, refusal_text, VerdictOf};
+ghost use Rattle.files.specs.declared.telling.CheckFault.TheVariants.{OutOfMemory};
 
 use crate::fault::Report;
 use crate::rule_file::read_rules;
-use crate::verdict::Verdict;
 use std::alloc::{AllocError, Global};
 
 // The number of a rule file among the files that a program reads.
 const RULE_FILE: u8 = 1;
 
+// Why a rule file has no numbers to write.
+#[derive(Drop)]
+pub enum CheckFault {
+    // refused, with the text to write
+    Refused(String),
+    // no memory for what it says
+    OutOfMemory,
+}
+
+impl From<AllocError> for CheckFault {
+    ghost from_gives = { λ _ fault. fault ≡ OutOfMemory };
+
+    fn from(_error: AllocError) -> CheckFault {
+        CheckFault::OutOfMemory
+    }
+}
+
 // What a program writes of a rule file: the numbers of its table, or its refusal.
-pub fn check_rules(heap: Global, bytes: &[u8]) -> Result<Verdict, AllocError>
-    ensures { IfOk result (VerdictOf bytes.now) }
+pub fn check_rules(heap: Global, bytes: &[u8]) -> Result<String, CheckFault>
+    ensures { VerdictOf bytes.now result }
 {
     match read_rules(heap, bytes) {
         Ok(table) => {
@@ -21,20 +38,12 @@ pub fn check_rules(heap: Global, bytes: &[u8]) -> Result<Verdict, AllocError>
                 table.label_count(),
                 table.group_count(),
             )?;
-            Ok(Verdict {
-                accepted: true,
-                text,
-            })
+            Ok(text)
         }
         Err(fault) => {
-            let Some(report) = fault.report() else {
-                return Err(AllocError);
-            };
+            let report = fault.report().ok_or(CheckFault::OutOfMemory)?;
             let text = refusal_text(heap, RULE_FILE, report)?;
-            Ok(Verdict {
-                accepted: false,
-                text,
-            })
+            Err(CheckFault::Refused(text))
         }
     }
 }
@@ -51,7 +60,8 @@ fn counts_text(
     format!(in heap; "rules,labels,groups\n{rules},{labels},{groups}\n")
 }
 
-// A line of names, and a line with the refusal's number, the file's, the line and the column.
+// A line of names, and a line with the refusal's number, the file's, the line and the column. It is no `Display` of the report, which does not
+// know its file's number.
 pub fn refusal_text(heap: Global, file: u8, report: Report) -> Result<String, AllocError>
     ensures { IfOk result (λ text. string_bytes text ≡ refusal_text file report) }
 {

@@ -36,13 +36,13 @@ module _ (groups : List Group) (leads : ℕ → ℕ → Bool) (order : List Rule
 -- ---- parts and groups
 
 module _ (rules : List Rule) (leads : ℕ → ℕ → Bool) (tells : (i j : ℕ) → Decides (leads i j) (Leads rules i j)) where
-  one_grouped : (i j : ℕ) → one_group leads i j ≡ true → Grouped rules leads tells i j
+  pub one_grouped : (i j : ℕ) → one_group leads i j ≡ true → Grouped rules leads tells i j
   one_grouped i j h = elim (or_cases (eqb i j) (leads i j && leads j i) h) [
     | inl e ↦ inl (eqb-true i j e)
     | inr e ↦ inr (and_parts (leads i j) (leads j i) e)
   ]
 
-  grouped_one : (i j : ℕ) → Grouped rules leads tells i j → one_group leads i j ≡ true
+  pub grouped_one : (i j : ℕ) → Grouped rules leads tells i j → one_group leads i j ≡ true
   grouped_one i j (inl e) = or_left (eqb i j) _ (eq-eqb i j e)
   grouped_one i j (inr p) = or_right (eqb i j) (leads i j && leads j i) (and_from _ _ p.0 p.1)
 

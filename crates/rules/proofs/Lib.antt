@@ -1,4 +1,3 @@
-pub mod Texts
 pub mod Spellings
 pub mod Marks
 pub mod Rows
@@ -6,11 +5,13 @@ pub mod Paths
 pub mod Rings
 pub mod Counts
 pub mod Ordering
-pub mod Fills
+pub mod Sorting
 pub mod Numbering
+pub mod Texts
 pub mod Drafting
 pub mod Keeping
 pub mod Adding
 pub mod Parts
 pub mod Groupings
+pub mod Chunks
 pub mod Closings

@@ -1,56 +1,35 @@
 -- The numbers that names get, and rules by number and by name.
-use Rattle.std.proofs.Common.{◌≡◌, ℕ, zero, suc, ◌+◌, ◌<◌, ◌≤◌, Bool, true, false, cond, ◌||◌, List, [], ◌∷◌, ◌++◌, length, string_bytes, String, sym, refl, ap, ◌∙◌, inl, inr, append_assoc, add-zero, arith, length-append}
+use Rattle.std.proofs.Common.{◌≡◌, ℕ, zero, suc, ◌+◌, ◌<◌, ◌≤◌, Bool, true, false, cond, eqb, not, ◌||◌, List, [], ◌∷◌, ◌++◌, length, string_bytes, String, sym, refl, ap, ◌∙◌, inl, inr, append_assoc, add-zero, arith, length-append}
+use Rattle.std.proofs.lemmas.List.Folds.{position_or_len_push, prefix_len-append}
+use Rattle.std.proofs.lemmas.List.Sums.{passes_at_first, prefix_len-le-length}
 use Rattle.std.proofs.lemmas.List.{map-append, append-nil}
-use Rattle.std.proofs.lemmas.Bool.{ltb-true, lt-ltb, le-ltb, ltb-false, cond-true, cond-false, cases_Bool}
-use Rattle.rules.specs.Texts.{texts, same_text}
+use Rattle.std.proofs.lemmas.Bool.{eq-eqb, ne_eqb, ltb-true, lt-ltb, le-ltb, ltb-false, cond-true, cond-false, cases_Bool}
+use Rattle.rules.specs.Texts.{texts}
+use Rattle.std.specs.Str.{bytes_eq}
 use Rattle.rules.specs.Drafts.{Extends}
 use Rattle.std.specs.declared.alloc.Global.{Global}
 use Rattle.rules.specs.Written.{index_of, known, enter, name_at}
-use Rattle.rules.proofs.Texts.{same_text_is, same_text_lem}
+use Rattle.std.proofs.lemmas.Slice.Eq.{bytes_eq-Decides}
 
 -- ---- the index of a name
 
 pub index_le : (names : List (List ℕ)) (t : List ℕ) → index_of names t ≤ length names
-index_le [] t = omega arith
-index_le (n ∷ names) t = let h = index_le names t in elim (cases_Bool (same_text n t)) [
-  | inl e ↦ rw e (omega arith)
-  | inr e ↦ rw e (omega arith)
-]
-
--- the first that is the text
-pub index_first : (names : List (List ℕ)) (t : List ℕ) (i : ℕ) → i < length names → ((k : ℕ) → k < i → same_text (name_at names k) t ≡ false) → same_text (name_at names i) t ≡ true → index_of names t ≡ i
-index_first [] t i l none e = absurd (omega arith)
-index_first (n ∷ names) t zero l none e = cond-true (same_text n t) _ _ e
-index_first (n ∷ names) t (suc i) l none e =
-    cond-false (same_text n t) _ _ (none 0 (omega arith)) ∙ ap suc (index_first names t i (omega arith) (λ k h. none (suc k) (omega arith)) e)
-
--- none that is
-pub index_none : (names : List (List ℕ)) (t : List ℕ) → ((k : ℕ) → k < length names → same_text (name_at names k) t ≡ false) → index_of names t ≡ length names
-index_none [] t none = refl
-index_none (n ∷ names) t none = cond-false (same_text n t) _ _ (none 0 (omega arith)) ∙ ap suc (index_none names t (λ k h. none (suc k) (omega arith)))
+index_le names t = prefix_len-le-length (λ n. not (bytes_eq n t)) names
 
 -- what is found is the name
 pub index_name : (names : List (List ℕ)) (t : List ℕ) → index_of names t < length names → name_at names (index_of names t) ≡ t
-index_name [] t l = absurd (omega arith)
-index_name (n ∷ names) t l = elim (cases_Bool (same_text n t)) [
-  | inl e ↦ rw e (same_text_is n t e)
-  | inr e ↦ rw e (index_name names t (omega (arith, rw e at l)))
-]
+index_name names t l = (bytes_eq-Decides (name_at names (index_of names t)) t).0 (passes_at_first (λ n. bytes_eq n t) names [] l)
 
 -- more names after it change nothing
 pub index-append : (names more : List (List ℕ)) (t : List ℕ) → index_of names t < length names → index_of (names ++ more) t ≡ index_of names t
-index-append [] more t l = absurd (omega arith)
-index-append (n ∷ names) more t l = elim (cases_Bool (same_text n t)) [
-  | inl e ↦ rw e refl
-  | inr e ↦ rw e (ap suc (index-append names more t (omega (arith, rw e at l))))
-]
+index-append names more t l = prefix_len-append (λ n. not (bytes_eq n t)) names more ∙ cond-false (eqb (index_of names t) (length names)) _ _ (ne_eqb _ _ (λ e. omega (arith, e, l)))
+
+-- a text that is no name, after one more
+index_beyond : (names : List (List ℕ)) (a b : List ℕ) → index_of names b ≡ length names → index_of (names ++ (a ∷ [])) b ≡ length names + cond (bytes_eq a b) 0 1
+index_beyond names a b e = position_or_len_push (λ n. bytes_eq n b) names a ∙ cond-true (eqb (index_of names b) (length names)) _ _ (eq-eqb _ _ e)
 
 pub index_new : (names : List (List ℕ)) (t : List ℕ) → index_of names t ≡ length names → index_of (names ++ (t ∷ [])) t ≡ length names
-index_new [] t e = cond-true (same_text t t) _ _ (same_text_lem t t refl)
-index_new (n ∷ names) t e = elim (cases_Bool (same_text n t)) [
-  | inl f ↦ absurd (omega (arith, rw f at e))
-  | inr f ↦ rw f (ap suc (index_new names t (omega (arith, rw f at e))))
-]
+index_new names t e = index_beyond names t t e ∙ (ap (λ (s : Bool). length names + cond s 0 1) ((bytes_eq-Decides t t).1 refl) ∙ add-zero (length names))
 
 -- ---- names that are entered
 
@@ -100,15 +79,7 @@ enter-length names t = elim (cases_Bool (known names t)) [
   | inr e ↦ rw e (length-append names (t ∷ []))
 ]
 
--- a text that is no name, after one more
-index_beyond : (names : List (List ℕ)) (a b : List ℕ) → index_of names b ≡ length names → index_of (names ++ (a ∷ [])) b ≡ length names + cond (same_text a b) 0 1
-index_beyond [] a b e = elim (cases_Bool (same_text a b)) [ inl s ↦ rw s refl | inr s ↦ rw s refl ]
-index_beyond (n ∷ names) a b e = elim (cases_Bool (same_text n b)) [
-  | inl f ↦ absurd (omega (arith, rw f at e))
-  | inr f ↦ let i = index_beyond names a b (omega (arith, rw f at e)) in rw f (omega arith)
-]
-
-known_new : (names : List (List ℕ)) (a b : List ℕ) (s t : Bool) → same_text a b ≡ s → known names b ≡ t → known (names ++ (a ∷ [])) b ≡ (s || t)
+known_new : (names : List (List ℕ)) (a b : List ℕ) (s t : Bool) → bytes_eq a b ≡ s → known names b ≡ t → known (names ++ (a ∷ [])) b ≡ (s || t)
 known_new names a b s true e f =
     let l = known_index names b f in
     let i = index-append names (a ∷ []) b l in
@@ -128,13 +99,13 @@ known_new names a b false false e f =
     le-ltb (index_of (names ++ (a ∷ [])) b) (length (names ++ (a ∷ []))) (omega arith)
 
 -- a text is a name then if it was, or is the one that was entered
-pub known_enter : (names : List (List ℕ)) (a b : List ℕ) → known (enter names a) b ≡ (same_text a b || known names b)
+pub known_enter : (names : List (List ℕ)) (a b : List ℕ) → known (enter names a) b ≡ (bytes_eq a b || known names b)
 known_enter names a b = elim (cases_Bool (known names a)) [
-  | inl e ↦ rw e (elim (cases_Bool (same_text a b)) [
-    | inl s ↦ rw s (ap (known names) (sym (same_text_is a b s)) ∙ e)
+  | inl e ↦ rw e (elim (cases_Bool (bytes_eq a b)) [
+    | inl s ↦ rw s (ap (known names) (sym ((bytes_eq-Decides a b).0 s)) ∙ e)
     | inr s ↦ rw s refl
   ])
-  | inr e ↦ rw e (known_new names a b (same_text a b) (known names b) refl refl)
+  | inr e ↦ rw e (known_new names a b (bytes_eq a b) (known names b) refl refl)
 ]
 
 or-or : (a b c : Bool) → (a || (b || c)) ≡ ((a || b) || c)
@@ -143,12 +114,12 @@ or-or false b c = refl
 
 -- what three names bring
 pub brings_three : (names : List (List ℕ)) (a b c : List ℕ) →
-    length (enter (enter (enter names a) b) c) ≡ length names + ((cond (false || known names a) 0 1 + cond (same_text a b || known names b) 0 1) + cond ((same_text b c || same_text a c) || known names c) 0 1)
+    length (enter (enter (enter names a) b) c) ≡ length names + ((cond (false || known names a) 0 1 + cond (bytes_eq a b || known names b) 0 1) + cond ((bytes_eq b c || bytes_eq a c) || known names c) 0 1)
 brings_three names a b c =
     let x = enter-length names a in
     let y = enter-length (enter names a) b ∙ ap (λ (t : Bool). length (enter names a) + cond t 0 1) (known_enter names a b) in
-    let k : known (enter (enter names a) b) c ≡ ((same_text b c || same_text a c) || known names c) =
-    known_enter (enter names a) b c ∙ (ap (λ (t : Bool). same_text b c || t) (known_enter names a c) ∙ or-or (same_text b c) (same_text a c) (known names c)) in
+    let k : known (enter (enter names a) b) c ≡ ((bytes_eq b c || bytes_eq a c) || known names c) =
+    known_enter (enter names a) b c ∙ (ap (λ (t : Bool). bytes_eq b c || t) (known_enter names a c) ∙ or-or (bytes_eq b c) (bytes_eq a c) (known names c)) in
     let z = enter-length (enter (enter names a) b) c ∙ ap (λ (t : Bool). length (enter (enter names a) b) + cond t 0 1) k in
     omega arith
 

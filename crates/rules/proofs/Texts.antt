@@ -1,20 +1,30 @@
--- Texts that are the same.
-use Rattle.std.proofs.Common.{◌≡◌, ℕ, ◌<◌, true, List, [], length, get_or, string_bytes, Decides, String, sym, refl, ap, ◌∙◌}
-use Rattle.std.proofs.lemmas.Slice.Eq.{compares_Decides}
-use Rattle.std.proofs.lemmas.List.{get_or-map}
+-- The texts of strings, and the names among them.
+use Rattle.std.proofs.Common.{◌≡◌, ℕ, ◌+◌, ◌<◌, cond, ltb, not, List, [], ◌∷◌, length, get_or, string_bytes, Option, String, sym, refl, ap, ◌∙◌, inl, inr, arith, MatchOption}
+use Rattle.std.specs.List.{position, position_or_len}
+use Rattle.std.specs.Str.{bytes_eq}
+use Rattle.std.proofs.lemmas.Bool.{ltb-true, ltb-false, cases_Bool}
+use Rattle.std.proofs.lemmas.List.{get_or-map, length-map}
 use Rattle.std.specs.declared.alloc.Global.{Global}
-use Rattle.rules.specs.Texts.{texts, same_text}
-use Rattle.rules.specs.Written.{name_at}
-
-pub same_text_decides : (a b : List ℕ) → Decides (same_text a b) (a ≡ b)
-same_text_decides = compares_Decides same_text (record { empty = refl; shorter = λ y ys. refl; longer = λ x xs. refl; heads = λ x y xs ys. refl })
-
-pub same_text_is : (a b : List ℕ) → same_text a b ≡ true → a ≡ b
-same_text_is a b = (same_text_decides a b).0
-
-pub same_text_lem : (a b : List ℕ) → a ≡ b → same_text a b ≡ true
-same_text_lem a b = (same_text_decides a b).1
+use Rattle.rules.specs.Texts.{texts}
+use Rattle.rules.specs.Written.{index_of, name_at}
+use Rattle.rules.proofs.Numbering.{index_le}
 
 -- The text of the string at an index.
 pub name_at-texts : (strings : List (String Global)) (i : ℕ) (s : String Global) → i < length strings → s ≡ get_or strings i s → name_at (texts strings) i ≡ string_bytes s
 name_at-texts strings i s l e = get_or-map string_bytes strings i s [] l ∙ ap string_bytes (sym e)
+
+index_of-texts : (names : List (String Global)) (t : List ℕ) → position_or_len (λ n. bytes_eq (string_bytes n) t) names ≡ index_of (texts names) t
+index_of-texts [] t = refl
+index_of-texts (n ∷ names) t = λ i. cond (not (bytes_eq (string_bytes n) t)) (1 + index_of-texts names t i) 0
+
+-- What is found of a text among the names.
+pub found_name : (names : List (String Global)) (t : List ℕ) (r : Option ℕ) → r ≡ position (λ n. bytes_eq (string_bytes n) t) names
+    → MatchOption r (index_of (texts names) t ≡ length (texts names)) (λ i. (i < length (texts names)) × (index_of (texts names) t ≡ i))
+found_name names t r e =
+    let p = index_of-texts names t in
+    let n = length-map names string_bytes in
+    let m = index_le (texts names) t in
+    elim (cases_Bool (ltb (position_or_len (λ n. bytes_eq (string_bytes n) t) names) (length names))) [
+      | inl h ↦ let l = ltb-true _ _ h in rw (e, h) (omega arith, sym p)
+      | inr h ↦ let l = ltb-false _ _ h in rw (e, h) (omega arith)
+    ]

@@ -10,12 +10,21 @@ use Rattle.rules.specs.declared.draft.AddFault.{AddFault}
 use Rattle.rules.specs.declared.draft.AddFault.TheVariants.{Refused, OutOfMemory}
 use Rattle.rules.specs.declared.draft.Draft.{Draft}
 use Rattle.rules.specs.declared.rule.Rule.{Rule}
+use Rattle.rules.specs.declared.rule.RuleWords.{RuleWords}
+use Rattle.rules.specs.declared.rule_list.RuleList.{RuleList}
 use Rattle.rules.specs.Texts.{texts}
 use Rattle.rules.specs.Written.{Written, index_of, enter, enter_rule, number_rule, spell_rules, spelt, room_for}
 
--- The rules of a draft as they were written.
+-- The rules of a list as they were written, and those of a draft.
+abbrev pub listed : RuleList → List Written
+listed l = spell_rules (texts (vec_items l.names)) (vec_items l.rules)
+
 abbrev pub drafted : Draft → List Written
-drafted d = spell_rules (texts (vec_items d.names)) (vec_items d.rules)
+drafted d = listed d.list
+
+-- The rule that the words say.
+abbrev pub said_by : RuleWords → Written
+said_by w = record { label = w.label.now; first = w.first.now; how = w.how; second = w.second.now }
 
 -- Why a rule is refused after the rules ws: a name that is no label, then a 49th rule or a 33rd label.
 abbrev pub add_refusal : List Written → Written → Option Refusal
@@ -26,6 +35,11 @@ abbrev pub Added : List Written → Written → List Written → Result RuleNo A
 Added ws w after (Ok number) = (add_refusal ws w ≡ None) × (after ≡ ws ++ (w ∷ [])) × (number.0 ≡ length ws + 1)
 Added ws w after (Err (Refused why)) = (add_refusal ws w ≡ Some why) × (after ≡ ws)
 Added ws w after (Err OutOfMemory) = (add_refusal ws w ≡ None) × (after ≡ ws)
+
+-- A rule that nothing refuses is in the list then, unless there is no memory for it.
+abbrev pub Pushed : List Written → Written → List Written → Result RuleNo AllocError → Type 0
+Pushed ws w after (Ok number) = (after ≡ ws ++ (w ∷ [])) × (number.0 ≡ length ws + 1)
+Pushed ws w after (Err e) = after ≡ ws
 
 -- The list begins with the other.
 abbrev pub Extends : {A : Type 0} → List A → List A → Type 0

@@ -1,39 +1,42 @@
--- How many of the rules pass a test, the lowest that does, and the key by which rules are put in order.
-use Rattle.std.specs.Prelude.{◌≡◌, ℕ, zero, suc, ◌+◌, ◌<◌, ◌≤◌, Bool, true, false, cond, not, ◌&&◌, ◌||◌, List, length, ◌==◌, nat_lt}
+-- The key by which rules are put in order, and the parts of an order.
+use Rattle.std.specs.Prelude.{◌≡◌, ℕ, suc, ◌+◌, ◌<◌, ◌≤◌, Bool, true, false, ◌&&◌, ◌||◌, List, length, map, ◌==◌, count_by}
+use Rattle.std.specs.List.{list_any, position_or_len, range_with_len}
+use Rattle.std.specs.Ordering.{is_lt, nat_cmp, ordering_then}
+use Rattle.std.specs.declared.cmp.Ordering.{Ordering}
 use Rattle.rules.specs.declared.group.Group.{Group}
 use Rattle.terms.specs.declared.numbers.RuleNo.{RuleNo}
 use Rattle.rules.specs.Words.{number_at, at, start_of, end_of, ringed_at, Holds}
 
--- How many numbers below n pass.
-abbrev pub tally : (ℕ → Bool) → ℕ → ℕ
-tally p zero = 0
-tally p (suc n) = cond (p n) (tally p n + 1) (tally p n)
+-- The numbers of n rules.
+abbrev pub numbers : ℕ → List RuleNo
+numbers n = map (λ k. record { 0 = k }) (range_with_len 1 n)
 
--- The lowest number below n that passes, or n.
-abbrev pub least : (ℕ → Bool) → ℕ → ℕ
-least p zero = 0
-least p (suc n) = cond (least p n == n && not (p n)) (n + 1) (least p n)
+-- A key is three numbers, which are compared in turn.
+abbrev pub Key : Type 0
+Key = ℕ × ℕ × ℕ
+
+abbrev pub key_cmp : Key → Key → Ordering
+key_cmp a b = ordering_then (ordering_then (nat_cmp a.0 b.0) (nat_cmp a.1 b.1)) (nat_cmp a.2 b.2)
 
 module _ (leads : ℕ → ℕ → Bool) where
   -- How many of the first n rules are i or lead to i.
   unfoldable pub rank_of : ℕ → ℕ → ℕ
-  rank_of n i = tally (λ m. (m == i) || leads m i) n
+  rank_of n i = count_by (λ m. (m == i) || leads m i) (range_with_len 0 n)
 
-  -- The lowest rule of the group of i.
+  -- The lowest rule of the group of i: the first of the rules below i that leads to i and back, or i.
   unfoldable pub leader_of : ℕ → ℕ
-  leader_of i = least (λ m. leads m i && leads i m) i
+  leader_of i = position_or_len (λ m. leads m i && leads i m) (range_with_len 0 i)
 
-  -- i stands before j: by rank, then by the lowest rule of the group, then by number.
-  unfoldable pub earlier : ℕ → ℕ → ℕ → Bool
-  earlier n i j = cond (rank_of n i == rank_of n j) (cond (leader_of i == leader_of j) (nat_lt i j) (nat_lt (leader_of i) (leader_of j))) (nat_lt (rank_of n i) (rank_of n j))
+  -- The key of i: its rank, then the lowest rule of its group, then i.
+  abbrev pub key_of : ℕ → ℕ → Key
+  key_of n i = (rank_of n i, leader_of i, i)
 
-  -- How many of the first n rules stand before i.
-  unfoldable pub place_of : ℕ → ℕ → ℕ
-  place_of n i = tally (λ m. earlier n m i) n
-
-  -- Each of the first n places of an order has the rule whose place it is.
-  abbrev pub InPlace : ℕ → List RuleNo → Type 0
-  InPlace n order = (p : ℕ) → p < n → (0 < number_at order p) × (at order p < n) × (place_of n (at order p) ≡ p)
+  -- An order has each of the first n rules, and their keys ascend. There is one such order only (`only_one` in proofs/Ordering.antt).
+  pub record InOrder (n : ℕ) (order : List RuleNo) : Type 0 where
+    pub long : length order ≡ n
+    pub numbered : (p : ℕ) → p < length order → (0 < number_at order p) × (at order p < n)
+    pub every : (i : ℕ) → i < n → list_any (λ (no : RuleNo). no.0 == i + 1) order ≡ true
+    pub ascends : (p q : ℕ) → p < q → q < length order → is_lt (key_cmp (key_of n (at order p)) (key_of n (at order q))) ≡ true
 
   -- Two rules are of one group, as a test.
   abbrev pub one_group : ℕ → ℕ → Bool

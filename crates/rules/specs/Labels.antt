@@ -1,5 +1,6 @@
 -- Labels as text: 1 to 16 bytes of a–z, 0–9 and hyphen, a letter first.
-use Rattle.std.specs.Prelude.{ℕ, Bool, true, false, ◌&&◌, ◌||◌, List, [], ◌∷◌, length, ◌==◌, nat_le}
+use Rattle.std.specs.Prelude.{ℕ, Bool, false, ◌&&◌, ◌||◌, List, [], ◌∷◌, length, ◌==◌, nat_le}
+use Rattle.std.specs.List.{list_all}
 
 -- a to z
 abbrev pub letter : ℕ → Bool
@@ -10,8 +11,7 @@ abbrev pub label_byte : ℕ → Bool
 label_byte b = letter b || ((nat_le 48 b && nat_le b 57) || b == 45)
 
 abbrev pub all_label_bytes : List ℕ → Bool
-all_label_bytes [] = true
-all_label_bytes (b ∷ bs) = label_byte b && all_label_bytes bs
+all_label_bytes bytes = list_all label_byte bytes
 
 abbrev pub is_label : List ℕ → Bool
 is_label [] = false

@@ -8,3 +8,4 @@ pub mod RuleSets
 pub mod Keys
 pub mod Drafts
 pub mod Tables
+pub mod Laws

@@ -1,6 +1,6 @@
 -- The eleven relations: which are exclusive, and their words in a rule file.
-use Rattle.std.specs.Prelude.{ℕ, Bool, true, false, cond, List, [], ◌∷◌, Some, None, codes, Option}
-use Rattle.rules.specs.Texts.{same_text}
+use Rattle.std.specs.Prelude.{ℕ, Bool, true, false, List, [], ◌∷◌, codes, Option}
+use Rattle.terms.specs.Words.{first_with}
 use Rattle.rules.specs.declared.relation.Relation.{Relation}
 use Rattle.rules.specs.declared.relation.Relation.TheVariants.{Before, Meet, During, Coincide, Start, Finish, Overlap, Slice, After, Follow, Contain}
 
@@ -34,11 +34,6 @@ relation_word Contain = codes "contain"
 abbrev pub relations : List Relation
 relations = Before ∷ Meet ∷ During ∷ Coincide ∷ Start ∷ Finish ∷ Overlap ∷ Slice ∷ After ∷ Follow ∷ Contain ∷ []
 
--- The first of the relations that has the word, if one has.
-abbrev pub first_named : List Relation → List ℕ → Option Relation
-first_named [] word = None
-first_named (h ∷ hs) word = cond (same_text (relation_word h) word) (Some h) (first_named hs word)
-
 -- The relation that has the word, if one has.
 abbrev pub relation_named : List ℕ → Option Relation
-relation_named word = first_named relations word
+relation_named word = first_with relation_word relations word

@@ -1,12 +1,10 @@
 -- What a set of rules holds.
-use Rattle.std.specs.Prelude.{ℕ, ◌/◌, ◌%◌, ◌^◌, Bool, List, ◌==◌, slice_index_or}
+use Rattle.std.specs.Prelude.{ℕ, Bool, List, ◌==◌, slice_index_or}
+use Rattle.std.specs.Int.{bit_at}
 use Rattle.rules.specs.declared.rule_set.RuleSet.{RuleSet}
 
-unfoldable pub bit : ℕ → ℕ → Bool
-bit n j = n / 2 ^ j % 2 == 1
-
-abbrev pub holds : RuleSet → ℕ → Bool
-holds s j = bit s.0 j
+unfoldable pub holds : RuleSet → ℕ → Bool
+holds s j = bit_at s.0 j == 1
 
 -- The row i of a table of sets holds j.
 abbrev pub marked : List RuleSet → ℕ → ℕ → Bool

@@ -1,5 +1,5 @@
 -- What a closed table is, in the words of rules, rings and groups.
-use Rattle.std.specs.Prelude.{◌≡◌, ℕ, ◌-◌, ◌<◌, ◌≤◌, true, List, length, take, Ok, Err, vec_items, Result}
+use Rattle.std.specs.Prelude.{◌≡◌, ℕ, ◌-◌, ◌<◌, ◌≤◌, true, List, length, Ok, Err, vec_items, Result}
 use Rattle.terms.specs.declared.numbers.LabelNo.{LabelNo}
 use Rattle.terms.specs.declared.numbers.RuleNo.{RuleNo}
 use Rattle.rules.specs.declared.group.Group.{Group}
@@ -7,6 +7,7 @@ use Rattle.rules.specs.declared.rule.Rule.{Rule}
 use Rattle.rules.specs.declared.table.CloseFault.{CloseFault}
 use Rattle.rules.specs.declared.table.CloseFault.TheVariants.{Ringed, OutOfMemory}
 use Rattle.rules.specs.declared.table.Table.{Table}
+use Rattle.rules.specs.Drafts.{listed}
 use Rattle.rules.specs.Labels.{is_label}
 use Rattle.rules.specs.Texts.{texts}
 use Rattle.rules.specs.Words.{rule_by_index, Free, LowestBarred, WorkingOrder, Grouping}
@@ -14,20 +15,20 @@ use Rattle.rules.specs.Written.{Written, names_of, rules_of, spell_rules, name_a
 
 -- Its labels' names and its rules, each by number; its working order and its groups.
 abbrev pub names_in : Table → List (List ℕ)
-names_in t = texts (vec_items t.names)
+names_in t = texts (vec_items t.list.names)
 
 abbrev pub rules_in : Table → List Rule
-rules_in t = vec_items t.rules
+rules_in t = vec_items t.list.rules
 
 abbrev pub order_in : Table → List RuleNo
-order_in t = take (length (rules_in t)) t.order
+order_in t = vec_items t.order
 
 abbrev pub groups_in : Table → List Group
 groups_in t = vec_items t.groups
 
 -- Its rules as they are written.
 abbrev pub tabled : Table → List Written
-tabled t = spell_rules (names_in t) (rules_in t)
+tabled t = listed t.list
 
 -- The table has the label, by number, and its name; it has the rule, by number, and what it is.
 abbrev pub LabelIn : Table → LabelNo → Type 0

@@ -1,10 +1,11 @@
 -- Rules as they are written, by names, and the numbers that labels get.
-use Rattle.std.specs.Prelude.{ℕ, suc, Bool, true, cond, ◌&&◌, List, [], ◌∷◌, ◌++◌, map, length, nat_le, nat_lt, slice_index_or}
+use Rattle.std.specs.Prelude.{ℕ, Bool, cond, ◌&&◌, List, [], ◌∷◌, ◌++◌, map, length, nat_le, nat_lt, slice_index_or}
+use Rattle.std.specs.List.{list_all, position_or_len}
+use Rattle.std.specs.Str.{bytes_eq}
 use Rattle.terms.specs.declared.numbers.LabelNo.{LabelNo}
 use Rattle.rules.specs.declared.relation.Relation.{Relation}
 use Rattle.rules.specs.declared.rule.Rule.{Rule}
 use Rattle.rules.specs.Labels.{is_label}
-use Rattle.rules.specs.Texts.{same_text}
 
 -- A rule by the names of its labels.
 pub record Written : Type 0 where
@@ -15,8 +16,7 @@ pub record Written : Type 0 where
 
 -- The index of the first name that is the text; the number of names if none is.
 abbrev pub index_of : List (List ℕ) → List ℕ → ℕ
-index_of [] text = 0
-index_of (n ∷ names) text = cond (same_text n text) 0 (suc (index_of names text))
+index_of names text = position_or_len (λ n. bytes_eq n text) names
 
 abbrev pub known : List (List ℕ) → List ℕ → Bool
 known names text = nat_lt (index_of names text) (length names)
@@ -72,13 +72,11 @@ room_for ws w = nat_lt (length ws) 48 && nat_le (length (names_of (ws ++ (w ∷ 
 
 -- All names are labels.
 abbrev pub all_labels : List (List ℕ) → Bool
-all_labels [] = true
-all_labels (n ∷ names) = is_label n && all_labels names
+all_labels names = list_all is_label names
 
 -- The labels of a rule are below the number of labels, and so are those of all the rules.
 abbrev pub in_range : ℕ → Rule → Bool
 in_range labels r = nat_lt r.label.0 labels && (nat_lt r.first.0 labels && nat_lt r.second.0 labels)
 
 abbrev pub all_in_range : ℕ → List Rule → Bool
-all_in_range labels [] = true
-all_in_range labels (r ∷ rules) = in_range labels r && all_in_range labels rules
+all_in_range labels rules = list_all (in_range labels) rules

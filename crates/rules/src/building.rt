@@ -1,14 +1,15 @@
-ghost use Rattle.std.specs.Prelude.{◌≡◌, ◌+◌, ◌<◌, ◌≤◌, ◌||◌, [], length, if◌then◌else◌};
-ghost use Rattle.rules.specs.Drafts.{drafted, add_refusal, Added, Entered, Wrote};
-ghost use Rattle.rules.specs.Texts.{texts, same_text};
-ghost use Rattle.rules.specs.Written.{enter, known};
+ghost use Rattle.std.specs.Prelude.{◌≡◌, ◌+◌, ◌<◌, ◌≤◌, ◌||◌, [], length, None, Some, MatchResult, if◌then◌else◌};
+ghost use Rattle.std.specs.Str.{bytes_eq};
+ghost use Rattle.rules.specs.declared.draft.AddFault.TheVariants.{Refused, OutOfMemory};
+ghost use Rattle.rules.specs.Drafts.{drafted, listed, said_by, add_refusal, Added, Pushed, Entered, Wrote};
+ghost use Rattle.rules.specs.Texts.{texts};
+ghost use Rattle.rules.specs.Written.{enter_rule, known, spelt};
 
 use crate::draft::{AddFault, Draft};
 use crate::label::is_label;
 use crate::names::find_name;
-use crate::relation::Relation;
-use crate::rule::{MOST_RULES, Rule};
-use crate::text::same_text;
+use crate::rule::{MOST_RULES, Rule, RuleWords};
+use crate::rule_list::RuleList;
 use std::alloc::{AllocError, Global};
 use terms::{LabelNo, Refusal, RuleNo};
 
@@ -21,93 +22,108 @@ impl Draft {
     {
         Draft {
             heap,
+            list: RuleList::new(heap),
+        }
+    }
+
+    // Adds a rule by the names of its labels, and tells its number. A refusal leaves the draft as it was.
+    pub fn add(&mut self, rule: RuleWords<'_>) -> Result<RuleNo, AddFault>
+        ensures { Added (drafted self.old) (said_by rule.entry) (drafted self.new) result }
+    {
+        self.list.check(rule)?;
+        let number = self.list.push(self.heap, rule)?;
+        Ok(number)
+    }
+}
+
+impl From<Refusal> for AddFault {
+    ghost from_gives = { λ why r. r ≡ Refused why };
+
+    fn from(why: Refusal) -> AddFault {
+        AddFault::Refused(why)
+    }
+}
+
+impl From<AllocError> for AddFault {
+    ghost from_gives = { λ _ r. r ≡ OutOfMemory };
+
+    fn from(_e: AllocError) -> AddFault {
+        AddFault::OutOfMemory
+    }
+}
+
+impl RuleList {
+    fn new(heap: Global) -> RuleList
+        ensures { listed result ≡ [] }
+    {
+        RuleList {
             names: Vec::new(heap),
             rules: Vec::new(heap),
         }
     }
 
-    // Adds a rule by the names of its labels, and tells its number. A refusal leaves the draft as it was.
-    pub fn add(
-        &mut self,
-        label: &str,
-        first: &str,
-        how: Relation,
-        second: &str,
-    ) -> Result<RuleNo, AddFault>
-        ensures { Added (drafted self.old) (record { label = label.now; first = first.now; how = how; second = second.now }) (drafted self.new) result }
+    // Whether one more rule is taken: its names are labels, and neither rules nor labels become too many.
+    fn check(&self, rule: RuleWords<'_>) -> Result<(), Refusal>
+        ensures { MatchResult result (λ _. add_refusal (listed self.now) (said_by rule.entry) ≡ None) (λ why. add_refusal (listed self.now) (said_by rule.entry) ≡ Some why) }
     {
-        if let Some(why) = self.refusal(label, first, second) {
-            return Err(AddFault::Refused(why));
-        }
-        let heap = self.heap;
-        let known = self.names.len();
-        let Ok(rule) = write_rule(
-            heap,
-            &mut self.names,
-            &mut self.rules,
-            label,
-            first,
-            how,
-            second,
-        ) else {
-            self.names.truncate(known);
-            return Err(AddFault::OutOfMemory);
-        };
-        Ok(rule)
-    }
-
-    // Why a rule of these names is refused, if it is.
-    fn refusal(&self, label: &str, first: &str, second: &str) -> Option<Refusal>
-        ensures { (how : Relation) → result ≡ add_refusal (drafted self.now) (record { label = label.now; first = first.now; how = how; second = second.now }) }
-    {
-        if !is_label(label.as_bytes())
-            || !is_label(first.as_bytes())
-            || !is_label(second.as_bytes())
-        {
-            return Some(Refusal::Misspelt);
+        if !is_spelt(rule) {
+            return Err(Refusal::Misspelt);
         }
         if self.rules.len() >= MOST_RULES {
-            return Some(Refusal::Overfull);
+            return Err(Refusal::Overfull);
         }
-        let brings = new_names(
-            &self.names,
-            label.as_bytes(),
-            first.as_bytes(),
-            second.as_bytes(),
-        );
-        if self.names.len() + brings > MOST_LABELS {
-            return Some(Refusal::Overfull);
+        if self.names.len() + new_names(&self.names, rule) > MOST_LABELS {
+            return Err(Refusal::Overfull);
         }
-        None
+        Ok(())
     }
+
+    // One rule more, that is taken. Where there is no memory for it, the list is as it was.
+    fn push(&mut self, heap: Global, rule: RuleWords<'_>) -> Result<RuleNo, AllocError>
+        requires { add_refusal (listed self.old) (said_by rule) ≡ None }
+        ensures { Pushed (listed self.old) (said_by rule.entry) (listed self.new) result }
+    {
+        let known = self.names.len();
+        let written = write_rule(heap, &mut self.names, &mut self.rules, rule);
+        if written.is_err() {
+            self.names.truncate(known);
+        }
+        written
+    }
+}
+
+// Whether the three names of a rule are labels.
+fn is_spelt(rule: RuleWords<'_>) -> bool
+    ensures { result ≡ spelt (said_by rule.entry) }
+{
+    is_label(rule.label.as_bytes())
+        && is_label(rule.first.as_bytes())
+        && is_label(rule.second.as_bytes())
 }
 
 // How many names a rule brings: its names that are not there, each counted once.
-fn new_names(names: &[String], label: &[u8], first: &[u8], second: &[u8]) -> usize
-    ensures brings { length (enter (enter (enter (texts names.now) label.now) first.now) second.now) ≡ length (texts names.now) + result }
+fn new_names(names: &[String], rule: RuleWords<'_>) -> usize
+    ensures brings { length (enter_rule (texts names.now) (said_by rule.entry)) ≡ length (texts names.now) + result }
     ensures few { result ≤ 3 }
 {
-    brings_one(names, label, false)
-        + brings_one(names, first, same_text(label, first))
-        + brings_one(names, second, is_either(first, label, second))
+    brings_one(names, rule.label, false)
+        + brings_one(names, rule.first, rule.label == rule.first)
+        + brings_one(
+            names,
+            rule.second,
+            rule.first == rule.second || rule.label == rule.second,
+        )
 }
 
 // One if the text is a new name, nought if it is there or stood before it in its rule.
-fn brings_one(names: &[String], text: &[u8], before: bool) -> usize
+fn brings_one(names: &[String], text: &str, before: bool) -> usize
     ensures { result ≡ (if before || known (texts names.now) text.now then 0 else 1) }
 {
-    if before || find_name(names, text).is_some() {
+    if before || find_name(names, text.as_bytes()).is_some() {
         0
     } else {
         1
     }
-}
-
-// Whether the text is one of two.
-fn is_either(a: &[u8], b: &[u8], text: &[u8]) -> bool
-    ensures { result ≡ (same_text a.now text.now || same_text b.now text.now) }
-{
-    same_text(a, text) || same_text(b, text)
 }
 
 // One rule more, with the names that it brings. Where there is no memory for it, names may be left behind.
@@ -115,23 +131,20 @@ fn write_rule(
     heap: Global,
     names: &mut Vec<String>,
     rules: &mut Vec<Rule>,
-    label: &str,
-    first: &str,
-    how: Relation,
-    second: &str,
+    rule: RuleWords<'_>,
 ) -> Result<RuleNo, AllocError>
     requires names { length (texts names.old.items) ≤ 32 }
     requires rules { length rules.old.items < 48 }
-    ensures { Wrote names.old.items rules.old.items (record { label = label.now; first = first.now; how = how; second = second.now }) names.new.items rules.new.items result }
+    ensures { Wrote names.old.items rules.old.items (said_by rule.entry) names.new.items rules.new.items result }
 {
     let count = rules.len();
-    let label = enter_name(heap, names, label)?;
-    let first = enter_name(heap, names, first)?;
-    let second = enter_name(heap, names, second)?;
+    let label = enter_name(heap, names, rule.label)?;
+    let first = enter_name(heap, names, rule.first)?;
+    let second = enter_name(heap, names, rule.second)?;
     rules.push(Rule {
         label,
         first,
-        how,
+        how: rule.how,
         second,
     })?;
     Ok(RuleNo(count as u8 + 1))
@@ -142,7 +155,7 @@ fn enter_name(heap: Global, names: &mut Vec<String>, text: &str) -> Result<Label
     requires { length (texts names.old.items) < 256 }
     ensures { Entered names.old.items text.now names.new.items result }
 {
-    if let Some(i) = find_name(names.as_slice(), text.as_bytes()) {
+    if let Some(i) = find_name(names, text.as_bytes()) {
         return Ok(LabelNo(i as u8));
     }
     let count = names.len();

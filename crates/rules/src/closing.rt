@@ -3,10 +3,8 @@ ghost use Rattle.rules.specs.declared.table.CloseFault.TheVariants.{OutOfMemory}
 ghost use Rattle.rules.specs.Drafts.{drafted};
 ghost use Rattle.rules.specs.Tables.{Closes};
 
-use crate::chains::reach;
 use crate::draft::Draft;
-use crate::groups::part_groups;
-use crate::orders::{ringed_exclusive, working_order};
+use crate::reach::Reach;
 use crate::table::{CloseFault, Table};
 use std::alloc::AllocError;
 
@@ -15,15 +13,14 @@ impl Draft {
     pub fn close(self) -> Result<Table, CloseFault>
         ensures { Closes (drafted self) result }
     {
-        let rows = reach(&self.rules);
-        if let Some(no) = ringed_exclusive(&self.rules, &rows) {
+        let reach = Reach::of(&self.list.rules);
+        if let Some(no) = reach.ringed_exclusive() {
             return Err(CloseFault::Ringed(no));
         }
-        let order = working_order(&self.rules, &rows);
-        let groups = part_groups(self.heap, &rows, &order, self.rules.len())?;
+        let order = reach.working_order(self.heap)?;
+        let groups = reach.groups(self.heap, &order)?;
         Ok(Table {
-            names: self.names,
-            rules: self.rules,
+            list: self.list,
             order,
             groups,
         })

@@ -1,26 +1,16 @@
-ghost use Rattle.std.specs.Prelude.{◌≡◌, ◌≤◌, true, length};
-ghost use Rattle.rules.specs.Texts.{texts};
-ghost use Rattle.rules.specs.Written.{names_of, spell_rules, all_labels, all_in_range};
-
-use crate::rule::Rule;
+use crate::rule_list::RuleList;
 use std::alloc::Global;
 use terms::Refusal;
 
-// Rules that were added one after the other, and the names of their labels in the order of first appearance.
+// Rules that were added one after the other.
 #[derive(Drop)]
 pub struct Draft {
     pub(crate) heap: Global,
-    pub(crate) names: Vec<String>,
-    pub(crate) rules: Vec<Rule>,
-    ghost few: { length rules.items ≤ 48 },
-    ghost fewnames: { length (texts names.items) ≤ 32 },
-    ghost spelt: { all_labels (texts names.items) ≡ true },
-    ghost within: { all_in_range (length (texts names.items)) rules.items ≡ true },
-    ghost appear: { names_of (spell_rules (texts names.items) rules.items) ≡ texts names.items },
+    pub(crate) list: RuleList,
 }
 
 // Why a rule was not added.
-#[derive(Clone, Copy)]
+#[derive(Clone, Copy, PartialEq, Eq, Debug)]
 pub enum AddFault {
     Refused(Refusal),
     OutOfMemory,

@@ -2,7 +2,6 @@
 #![tactic(auto)]
 
 mod building;
-mod chains;
 mod closing;
 mod draft;
 mod group;
@@ -10,17 +9,17 @@ mod groups;
 mod label;
 mod names;
 mod orders;
+mod reach;
 mod relation;
 mod rule;
+mod rule_list;
 mod rule_set;
 mod table;
 mod telling;
-mod text;
 
 pub use draft::{AddFault, Draft};
 pub use group::Group;
 pub use label::read_label;
 pub use relation::Relation;
-pub use rule::Rule;
+pub use rule::{Rule, RuleWords};
 pub use table::{CloseFault, Table};
-pub use text::same_text;

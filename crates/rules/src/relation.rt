@@ -1,11 +1,12 @@
-ghost use Rattle.std.specs.Prelude.{◌≡◌, MatchOption, ◌≢◌};
-ghost use Rattle.rules.specs.Relations.{exclusive, relation_word, relation_named, first_named};
+ghost use Rattle.std.specs.Prelude.{◌≡◌};
+ghost use Rattle.rules.specs.Relations.{exclusive, relation_word, relations};
+ghost use Rattle.rules.specs.Laws.Relations.{relations_complete};
 
-use crate::text::same_text;
+use terms::Worded;
 
 // How a rule compares a period of its first label with one of its second. The first eight are inclusive: they make a period of two
 // that lie so. The last three are exclusive: they keep a period that no other blocks.
-#[derive(Clone, Copy)]
+#[derive(Clone, Copy, PartialEq, Eq, Debug)]
 pub enum Relation {
     Before,
     Meet,
@@ -39,16 +40,23 @@ impl Relation {
     pub fn is_exclusive(self) -> bool
         ensures { result ≡ exclusive self }
     {
-        match self {
-            Relation::After | Relation::Follow | Relation::Contain => true,
-            _ => false,
-        }
+        matches!(self, Relation::After | Relation::Follow | Relation::Contain)
+    }
+}
+
+// The words of a rule file.
+impl Worded for Relation {
+    ghost spelling = { relation_word };
+
+    ghost every = { relations };
+
+    ghost complete = { relations_complete };
+
+    fn all() -> &'static [Relation] {
+        &ALL
     }
 
-    // The word of a rule file.
-    pub fn word(self) -> &'static str
-        ensures { result.now ≡ relation_word self }
-    {
+    fn word(self) -> &'static str {
         match self {
             Relation::Before => "before",
             Relation::Meet => "meet",
@@ -63,24 +71,4 @@ impl Relation {
             Relation::Contain => "contain",
         }
     }
-
-    // The relation that has this word, if one has.
-    pub fn from_word(word: &[u8]) -> Option<Relation>
-        ensures value { result ≡ relation_named word.now }
-        ensures named { MatchOption result ((how : Relation) → relation_word how ≢ word.now) (λ how. relation_word how ≡ word.now) }
-    {
-        first_with_word(&ALL, word)
-    }
-}
-
-// The first of the relations that has this word, if one has.
-fn first_with_word(hows: &[Relation], word: &[u8]) -> Option<Relation>
-    ensures { result ≡ first_named hows.now word.now }
-{
-    for how in hows {
-        if same_text(how.word().as_bytes(), word) {
-            return Some(*how);
-        }
-    }
-    None
 }

@@ -12,11 +12,11 @@ impl RuleSet {
         RuleSet(0)
     }
 
+    // Whether the rule is in the set, which has no rule from 64 on.
     pub(crate) fn has(self, i: usize) -> bool
-        requires { i < 64 }
         ensures { result ≡ holds self i }
     {
-        (self.0 >> i) & 1 == 1
+        i < 64 && (self.0 >> i) & 1 == 1
     }
 
     pub(crate) fn with(self, i: usize) -> RuleSet

@@ -13,14 +13,14 @@ impl Table {
     pub fn rule_count(&self) -> usize
         ensures { result ≡ length (rules_in self.now) }
     {
-        self.rules.len()
+        self.list.rules.len()
     }
 
     // How many labels there are.
     pub fn label_count(&self) -> usize
         ensures { result ≡ length (names_in self.now) }
     {
-        self.names.len()
+        self.list.names.len()
     }
 
     // How many groups there are.
@@ -34,37 +34,33 @@ impl Table {
     pub fn label_name(&self, label: LabelNo) -> Option<&str>
         ensures { MatchOption result (LabelIn self.now label → ⊥) (λ name. LabelIn self.now label × (name.now ≡ name_of self.now label)) }
     {
-        match self.names.get(label.0 as usize) {
-            Some(name) => Some(name.as_str()),
-            None => None,
-        }
+        self.list
+            .names
+            .get(label.0 as usize)
+            .map(|name| name.as_str())
     }
 
     // The label that has the name, if one has.
     pub fn label_no(&self, name: &[u8]) -> Option<LabelNo>
         ensures { MatchOption result ((label : LabelNo) → LabelIn self.now label → name_of self.now label ≢ name.now) (λ label. LabelIn self.now label × (name_of self.now label ≡ name.now)) }
     {
-        match find_name(&self.names, name) {
-            Some(i) => Some(LabelNo(i as u8)),
-            None => None,
-        }
+        let i = find_name(&self.list.names, name)?;
+        Some(LabelNo(i as u8))
     }
 
     // The rule that has the number, if one has.
     pub fn rule(&self, rule: RuleNo) -> Option<Rule>
         ensures { MatchOption result (RuleIn self.now rule → ⊥) (λ x. RuleIn self.now rule × (x ≡ rule_of self.now rule)) }
     {
-        if rule.0 == 0 || rule.0 as usize > self.rules.len() {
-            return None;
-        }
-        Some(self.rules[rule.0 as usize - 1])
+        let i = (rule.0 as usize).checked_sub(1)?;
+        self.list.rules.get(i).copied()
     }
 
     // The rules, by number.
     pub fn rules(&self) -> &[Rule]
         ensures { result.now ≡ rules_in self.now }
     {
-        self.rules.as_slice()
+        self.list.rules.as_slice()
     }
 
     // The rules' numbers in a working order.
@@ -72,7 +68,7 @@ impl Table {
         ensures value { result.now ≡ order_in self.now }
         ensures works { WorkingOrder (rules_in self.now) result.now }
     {
-        &self.order[0..self.rules.len()]
+        self.order.as_slice()
     }
 
     // The groups of the working order.

@@ -3,6 +3,8 @@
 
 mod numbers;
 mod refusal;
+mod worded;
 
 pub use numbers::{LabelNo, Place, RuleNo};
 pub use refusal::Refusal;
+pub use worded::Worded;

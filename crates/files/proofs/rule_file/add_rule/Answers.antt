@@ -1,12 +1,14 @@
-use Rattle.std.proofs.Common.{sym, subst}
+use Rattle.std.proofs.Common.{◌≡◌, MatchResult, Ok, Err, rules}
+use Rattle.std.proofs.lemmas.Result.{err_from_is_err_and}
 use Rattle.rules.specs.Drafts.{drafted}
-use Rattle.files.specs.declared.fault.LineFault.{LineFault}
-use Rattle.files.specs.Answers.{said_by, Told, add_outcome}
-use Rattle.files.specs.Faults.{line_told}
-use Rattle.files.proofs.Following.{add_told}
+use Rattle.rules.specs.Drafts.{said_by}
+use Rattle.files.specs.Faults.{unadded}
+use Rattle.files.proofs.Following.{unadded_told}
 use Rattle.files.proofs.rule_file.add_rule.Goals as goal
 
-pub returns-in-Err : goal.returns-in-Err
-returns-in-Err c =
-    subst (λ (f : LineFault). Told (drafted c.args.draft.now) (add_outcome c.args.line (drafted c.args.draft.now) (said_by c.args.words)) (line_told f)) (sym c.unadded_in.ensures)
-    (add_told c.args.line (drafted c.args.draft.now) (drafted c.add.new.self) (said_by c.args.words) c.in-Err.why c.requires c.in-Err.ensures)
+pub returns-in_err-map_err : goal.returns-in_err-map_err
+returns-in_err-map_err c =
+    let p = err_from_is_err_and c.from_residual.result c.from_residual.ensures.1 in
+    let made : MatchResult c.add.result (λ number. c.map_err.result ≡ Ok number) (λ f. c.map_err.result ≡ Err (unadded f c.args.line)) = search rules in
+    rw (p.1, p.2) (unadded_told c.args.line (drafted c.args.draft.now) (drafted c.add.new.self) (said_by c.args.words) c.add.result c.map_err.result c.in_err-map_err.field-0.0
+    c.requires c.add.ensures made c.in_err-map_err.was)

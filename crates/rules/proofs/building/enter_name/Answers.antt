@@ -9,7 +9,7 @@ use Rattle.rules.proofs.building.enter_name.Goals as goal
 
 pub returns-in-Some : goal.returns-in-Some
 returns-in-Some c =
-    let f = subst (λ (ns : List (String Global)). (c.in-Some.i < length (texts ns)) × (index_of (texts ns) c.as_bytes.result.now ≡ c.in-Some.i)) c.as_slice.ensures.value c.in-Some.ensures in
+    let f = subst (λ (ns : List (String Global)). (c.in-Some.i < length (texts ns)) × (index_of (texts ns) c.as_bytes.result.now ≡ c.in-Some.i)) c.deref.ensures.value c.in-Some.ensures in
     entered_there (vec_items c.args.names.now) c.args.text.now c.in-Some.i f.0
     (ap (λ (t : List ℕ). index_of (texts (vec_items c.args.names.now)) t) (sym c.as_bytes.ensures.value) ∙ f.1)
 
@@ -24,7 +24,7 @@ returns c =
     let n : c.len-count.result ≡ length (vec_items c.args.names.now) = omega (arith, c.len-count.ensures, c.args.names.now.ok.0) in
     rw n (entered_new (vec_items c.args.names.now) c.in_ok-from_str.field-0 (vec_items c.push.new.self) c.args.text.now
     c.in_ok-from_str.ensures.ok c.in_ok-push.ensures.items
-    (new_name (vec_items c.args.names.now) c.as_slice.result.now c.args.text.now c.as_bytes.result.now c.as_slice.ensures.value c.as_bytes.ensures.value c.in_default.ensures))
+    (new_name (vec_items c.args.names.now) c.deref.result.now c.args.text.now c.as_bytes.result.now c.deref.ensures.value c.as_bytes.ensures.value c.in_default.ensures))
 
 pub overflow_cast-result-2 : goal.overflow_cast-result-2
 overflow_cast-result-2 c =

@@ -1,5 +1,5 @@
-use Rattle.rules.proofs.Marks.{bit_none}
+use Rattle.rules.proofs.Marks.{holds_none}
 use Rattle.rules.proofs.rule_set.RuleSet.none.Goals as goal
 
 pub returns : goal.returns
-returns c = bit_none
+returns c = holds_none

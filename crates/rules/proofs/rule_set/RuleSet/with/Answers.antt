@@ -1,5 +1,5 @@
-use Rattle.rules.proofs.Marks.{bit_with}
+use Rattle.rules.proofs.Marks.{holds_with}
 use Rattle.rules.proofs.rule_set.RuleSet.with.Goals as goal
 
 pub returns : goal.returns
-returns c = λ j. bit_with c.args.self.0 c.args.i j c.requires
+returns c = λ j. holds_with c.args.self.0 c.args.i j c.requires

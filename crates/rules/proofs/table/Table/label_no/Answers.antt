@@ -8,16 +8,16 @@ use Rattle.rules.proofs.Keeping.{kept_different}
 use Rattle.rules.proofs.Closings.{table_kept}
 use Rattle.rules.proofs.table.Table.label_no.Goals as goal
 
-pub returns-in-Some : goal.returns-in-Some
-returns-in-Some c =
-    let f = subst (λ (ns : List (String Global)). (c.in-Some.i < length (texts ns)) × (index_of (texts ns) c.args.name.now ≡ c.in-Some.i)) c.deref.ensures.value c.in-Some.ensures in
+pub returns : goal.returns
+returns c =
+    let f = subst (λ (ns : List (String Global)). (c.in_ok-i.i < length (texts ns)) × (index_of (texts ns) c.args.name.now ≡ c.in_ok-i.i)) c.deref.ensures.value c.in_ok-i.ensures in
     let l : index_of (names_in c.args.self.now) c.args.name.now < length (names_in c.args.self.now) = let a = f.0 in let b = f.1 in omega arith in
     (f.0, ap (name_at (names_in c.args.self.now)) (sym f.1) ∙ index_name (names_in c.args.self.now) c.args.name.now l)
 
-pub returns-in-None : goal.returns-in-None
-returns-in-None c =
-    let f = subst (λ (ns : List (String Global)). index_of (texts ns) c.args.name.now ≡ length (texts ns)) c.deref.ensures.value c.in-None.ensures in
-    λ label l e.
+pub returns-in_err-i : goal.returns-in_err-i
+returns-in_err-i c =
+    let f = subst (λ (ns : List (String Global)). index_of (texts ns) c.args.name.now ≡ length (texts ns)) c.deref.ensures.value c.in_err-i.ensures in
+    rw c.from_residual.ensures (λ label l e.
     let d = kept_different (names_in c.args.self.now) (rules_in c.args.self.now) (table_kept c.args.self.now) label.0 l in
     let g = ap (index_of (names_in c.args.self.now)) e in
-    omega arith
+    omega arith)
