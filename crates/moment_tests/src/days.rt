@@ -1,5 +1,6 @@
 // A day is in range from 0 to 999999; its text is its number in decimal, with no leading zero.
-use moments::{Day, Moment, Ordered};
+use crate::kinds::{comes_before, reads, shows};
+use moments::Day;
 use std::test::Fail;
 
 // A field, and the day that is read.
@@ -52,9 +53,7 @@ const READ: [(&[u8], Option<Day>); 39] = [
 
 #[test]
 fn read(rt: HostRuntime) {
-    for (field, expected) in &READ {
-        assert_eq!(rt; Day::read(field), *expected);
-    }
+    reads(&rt, |day| day, &READ);
 }
 
 // A day, whether it is in range, and its text. A day in range is read back.
@@ -71,14 +70,7 @@ const TEXTS: [(Day, bool, &str); 8] = [
 
 #[test]
 fn texts(rt: HostRuntime) -> Result<(), Fail> {
-    for (day, ranged, text) in &TEXTS {
-        assert_eq!(rt; day.in_range(), *ranged);
-        let written = day.to_text(rt.alloc())?;
-        assert_eq!(rt; written.as_str(), *text);
-        let expected = if *ranged { Some(*day) } else { None };
-        assert_eq!(rt; Day::read(written.as_bytes()), expected);
-    }
-    Ok(())
+    shows(&rt, |day| day, &TEXTS)
 }
 
 // Two days, and whether the first comes before the second.
@@ -99,7 +91,5 @@ const ORDER: [(Day, Day, bool); 10] = [
 
 #[test]
 fn order(rt: HostRuntime) {
-    for (one, other, expected) in &ORDER {
-        assert_eq!(rt; one.precedes(other), *expected);
-    }
+    comes_before(&rt, |day| day, &ORDER);
 }

@@ -4,4 +4,6 @@
 #[cfg(test)]
 mod days;
 #[cfg(test)]
+mod kinds;
+#[cfg(test)]
 mod stamps;

@@ -1,5 +1,6 @@
 // A stamp is in range with a season from 0 to 99, a sheet from 1 to 9999 and a line from 1 to 99; its text has two, four and two digits.
-use moments::{Moment, Ordered, SheetStamp};
+use crate::kinds::{comes_before, reads, shows};
+use moments::SheetStamp;
 use std::test::Fail;
 
 // A field, and the season, sheet and line that are read.
@@ -83,13 +84,7 @@ fn stamp(parts: (u16, u16, u8)) -> SheetStamp {
 
 #[test]
 fn read(rt: HostRuntime) {
-    for (field, expected) in &READ {
-        let wanted = match expected {
-            Some(parts) => Some(stamp(*parts)),
-            None => None,
-        };
-        assert_eq!(rt; SheetStamp::read(field), wanted);
-    }
+    reads(&rt, stamp, &READ);
 }
 
 // A stamp, whether it is in range, and its text. A stamp in range is read back.
@@ -113,15 +108,7 @@ const TEXTS: [((u16, u16, u8), bool, &str); 14] = [
 
 #[test]
 fn texts(rt: HostRuntime) -> Result<(), Fail> {
-    for (parts, ranged, text) in &TEXTS {
-        let moment = stamp(*parts);
-        assert_eq!(rt; moment.in_range(), *ranged);
-        let written = moment.to_text(rt.alloc())?;
-        assert_eq!(rt; written.as_str(), *text);
-        let expected = if *ranged { Some(moment) } else { None };
-        assert_eq!(rt; SheetStamp::read(written.as_bytes()), expected);
-    }
-    Ok(())
+    shows(&rt, stamp, &TEXTS)
 }
 
 // Two stamps, and whether the first comes before the second.
@@ -148,7 +135,5 @@ const ORDER: [((u16, u16, u8), (u16, u16, u8), bool); 14] = [
 
 #[test]
 fn order(rt: HostRuntime) {
-    for (one, other, expected) in &ORDER {
-        assert_eq!(rt; stamp(*one).precedes(&stamp(*other)), *expected);
-    }
+    comes_before(&rt, stamp, &ORDER);
 }

@@ -5,7 +5,6 @@ use mathlib.Core.List.Memᴰ
 use mathlib.Core.List.{Memᴰ}
 use Rattle.std.specs.List.{slice_get}
 use Rattle.std.proofs.lemmas.Bool.{cases_Bool, and_parts, and_from, both_ways, or_cases, or_right, not-true, cond-true, cond-false, lt-ltb, le-ltb, cases_lt}
-use Rattle.std.proofs.lemmas.List.{length-take-le, get_or-take}
 use Rattle.moments.specs.Laws.Lex.{asym}
 use Rattle.moments.specs.Order.{StrictTotalOrder, all_after, ascends, Ascending, among, rank, with, least_after, found}
 
@@ -23,29 +22,10 @@ module _ {A : Type 0} (before : A → A → Bool) (laws : StrictTotalOrder befor
     | inr f ↦ rw f (omega arith)
   ]
 
-  -- the element at a place is not before x: the place of x is no later
-  pub rank_stops : (x : A) (ys : List A) (k : ℕ) (d : A) → k < length ys → before (slice_index_or ys k d) x ≡ false → rank before x ys ≤ k
-  rank_stops x [] k d l h = absurd (omega arith)
-  rank_stops x (y ∷ ys) zero d l h = rw h (omega arith)
-  rank_stops x (y ∷ ys) (suc k) d l h = elim (cases_Bool (before y x)) [
-    | inl t ↦ let ih = rank_stops x ys k d (omega arith) h in rw t (omega arith)
-    | inr f ↦ rw f (omega arith)
-  ]
-
   pub after_at : (x : A) (ys : List A) (k : ℕ) (d : A) → all_after before x ys ≡ true → k < length ys → before x (slice_index_or ys k d) ≡ true
   after_at x [] k d a l = absurd (omega arith)
   after_at x (y ∷ ys) zero d a l = (and_parts (before x y) (all_after before x ys) a).0
   after_at x (y ∷ ys) (suc k) d a l = after_at x ys k d (and_parts (before x y) (all_after before x ys) a).1 (omega arith)
-
-  -- the element at a place is before x: the place of x is later
-  pub rank_passes : (x : A) (ys : List A) (k : ℕ) (d : A) → Ascending before ys → k < length ys → before (slice_index_or ys k d) x ≡ true → suc k ≤ rank before x ys
-  rank_passes x [] k d a l h = absurd (omega arith)
-  rank_passes x (y ∷ ys) zero d a l h = rw h (omega arith)
-  rank_passes x (y ∷ ys) (suc k) d a l h =
-      let parts = and_parts (all_after before y ys) (ascends before ys) a in
-      let t : before y x ≡ true = laws.transitive y (slice_index_or ys k d) x (after_at y ys k d parts.0 (omega arith)) h in
-      let ih = rank_passes x ys k d parts.1 (omega arith) h in
-      rw t (omega arith)
 
   pub after_further : (x y : A) (ys : List A) → before x y ≡ true → all_after before y ys ≡ true → all_after before x ys ≡ true
   after_further x y [] h a = refl
@@ -137,39 +117,6 @@ module _ {A : Type 0} (before : A → A → Bool) (laws : StrictTotalOrder befor
           | inr g ↦ rw g (subst (λ (z : A). least_after before z ys ≡ slice_get ys 0) (sym (laws.connected x y g f)) (first_after y ys parts.0))
         ])
       ]
-
-  -- the same on the first n of the slots, where y stands at k
-  pub kept_passes : (x y : A) (xs : List A) (n k : ℕ) → n ≤ length xs → k < n → y ≡ slice_index_or xs k y → before y x ≡ true → Ascending before (take n xs) → k + 1 ≤ rank before x (take n xs)
-  kept_passes x y xs n k h l r b a =
-      let e = length-take-le n xs h in
-      let q = rank_passes x (take n xs) k y a (omega arith) (ap (λ (z : A). before z x) (get_or-take n xs k y l ∙ sym r) ∙ b) in
-      omega arith
-
-  pub kept_stops : (x y : A) (xs : List A) (n k : ℕ) → n ≤ length xs → k < n → y ≡ slice_index_or xs k y → before y x ≡ false → rank before x (take n xs) ≤ k
-  kept_stops x y xs n k h l r b =
-      let e = length-take-le n xs h in
-      rank_stops x (take n xs) k y (omega arith) (ap (λ (z : A). before z x) (get_or-take n xs k y l ∙ sym r) ∙ b)
-
-  pub kept_rank_le : (x : A) (xs : List A) (n : ℕ) → n ≤ length xs → rank before x (take n xs) ≤ n
-  kept_rank_le x xs n h = let e = length-take-le n xs h in let q = rank_le x (take n xs) in omega arith
-
-  pub found_there : (x y : A) (xs : List A) (n k : ℕ) → n ≤ length xs → k < n → y ≡ slice_index_or xs k y → before x y ≡ false → Ascending before (take n xs) → k ≡ rank before x (take n xs) → Ok k ≡ found before x (take n xs)
-  found_there x y xs n k h l r b a p = sym (cond-true (among before x (take n xs)) _ _ at ∙ ap Ok (sym p))
-    where
-      at : among before x (take n xs) ≡ true
-      at = among_at x (take n xs) y a ∙ subst (λ (i : ℕ). (nat_lt i (length (take n xs)) && not (before x (slice_index_or (take n xs) i y))) ≡ true) p (let e = length-take-le n xs h in rw (lt-ltb k (length (take n xs)) (omega arith), get_or-take n xs k y l) (subst (λ (z : A). not (before x z) ≡ true) r (rw b refl)))
-
-  pub found_after : (x y : A) (xs : List A) (n k : ℕ) → n ≤ length xs → k < n → y ≡ slice_index_or xs k y → before x y ≡ true → Ascending before (take n xs) → k ≡ rank before x (take n xs) → Err k ≡ found before x (take n xs)
-  found_after x y xs n k h l r b a p = sym (cond-false (among before x (take n xs)) _ _ at ∙ ap Err (sym p))
-    where
-      at : among before x (take n xs) ≡ false
-      at = among_at x (take n xs) y a ∙ subst (λ (i : ℕ). (nat_lt i (length (take n xs)) && not (before x (slice_index_or (take n xs) i y))) ≡ false) p (let e = length-take-le n xs h in rw (lt-ltb k (length (take n xs)) (omega arith), get_or-take n xs k y l) (subst (λ (z : A). not (before x z) ≡ false) r (rw b refl)))
-
-  pub found_past : (x : A) (xs : List A) (n k : ℕ) → n ≤ length xs → n ≤ k → Ascending before (take n xs) → k ≡ rank before x (take n xs) → Err k ≡ found before x (take n xs)
-  found_past x xs n k h l a p = sym (cond-false (among before x (take n xs)) _ _ at ∙ ap Err (sym p))
-    where
-      at : among before x (take n xs) ≡ false
-      at = among_at x (take n xs) x a ∙ (let e = length-take-le n xs h in rw (le-ltb (rank before x (take n xs)) (length (take n xs)) (omega arith)) refl)
 
   pub not_found : (x : A) (xs : List A) (i : ℕ) → Err i ≡ found before x xs → (among before x xs ≡ false) × (i ≡ rank before x xs)
   not_found x xs i f = elim (cases_Bool (among before x xs)) [

@@ -1,3 +1,5 @@
 pub mod Ascents
 pub mod Additions
+pub mod Padding
+pub mod Searches
 pub mod Shifts

@@ -1,3 +1,4 @@
+ghost use Rattle.std.specs.Prelude.{Some, refl};
 ghost use Rattle.moments.specs.Days.{day_before, day_ranged, day_written};
 ghost use Rattle.std.proofs.Common.{rules};
 ghost use Rattle.moments.specs.Laws.DayTexts.{day_apart};
@@ -5,10 +6,10 @@ ghost use Rattle.moments.specs.Laws.DayTexts.{day_apart};
 use crate::digits::number;
 use crate::moment::Moment;
 use crate::ordered::Ordered;
-use std::alloc::{AllocError, Global};
+use std::fmt;
 
 // A day by its number, in range from 0 to LAST. A day out of range has an order and a text too.
-#[derive(Clone, Copy, PartialEq, Eq, Debug)]
+#[derive(Clone, Copy, PartialEq, Eq, PartialOrd, Ord, Debug)]
 pub struct Day(pub u32);
 
 const LAST: u32 = 999_999;
@@ -21,8 +22,14 @@ impl Ordered for Day {
 
     ghost total = { Prim.search rules };
 
-    fn precedes(&self, other: &Day) -> bool {
-        self.0 < other.0
+    ghost agrees = { Prim.search rules };
+}
+
+impl fmt::Display for Day {
+    ghost output = { λ d. Some (day_written d) };
+
+    fn fmt<W: fmt::Write>(&self, f: &mut fmt::Formatter<W>) -> fmt::Result {
+        write!(f, "{}", self.0)
     }
 }
 
@@ -31,6 +38,8 @@ impl Moment for Day {
 
     ghost written = { day_written };
 
+    ghost shown = { λ _. refl };
+
     ghost apart = { day_apart };
 
     fn in_range(&self) -> bool {
@@ -38,19 +47,11 @@ impl Moment for Day {
     }
 
     fn read(field: &[u8]) -> Option<Day> {
-        if field.is_empty() || field.len() > MOST_DIGITS {
-            return None;
+        match field {
+            [] => None,
+            [b'0', _, ..] => None,
+            _ if field.len() > MOST_DIGITS => None,
+            _ => Some(Day(number(field)?)),
         }
-        if field[0] == b'0' && field.len() > 1 {
-            return None;
-        }
-        match number(field) {
-            Some(n) => Some(Day(n)),
-            None => None,
-        }
-    }
-
-    fn to_text(&self, heap: Global) -> Result<String, AllocError> {
-        self.0.to_string(heap)
     }
 }

@@ -1,11 +1,12 @@
-ghost use Rattle.std.specs.Prelude.{◌≡◌, ℕ, Bool, true, List, IfOk, string_bytes};
+ghost use Rattle.std.specs.Prelude.{◌≡◌, ℕ, Bool, true, List, Some, IfOk, string_bytes};
 ghost use Rattle.moments.specs.Moments.{ReadAs};
 
 use crate::ordered::Ordered;
 use std::alloc::{AllocError, Global};
+use std::fmt::Display;
 
 // A kind of moment: its order, which of its values are in range, and their text.
-pub trait Moment: Ordered {
+pub trait Moment: Ordered + Display {
     // whether a moment is in range
     ghost ranged: { Self → Bool };
 
@@ -22,7 +23,13 @@ pub trait Moment: Ordered {
 
     // The moment's text, which reads back as the same moment if it is in range.
     fn to_text(&self, heap: Global) -> Result<String, AllocError>
-        ensures { IfOk result (λ t. string_bytes t ≡ written self.now) };
+        ensures { IfOk result (λ t. string_bytes t ≡ written self.now) }
+    {
+        self.to_string(heap)
+    }
+
+    // `{}` prints that text
+    ghost shown: { (x : Self) → Self.output x ≡ Some (written x) };
 
     // two moments in range with one text are the same
     ghost apart: { (x y : Self) → ranged x ≡ true → ranged y ≡ true → written x ≡ written y → x ≡ y };

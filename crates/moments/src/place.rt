@@ -9,7 +9,5 @@ impl Ordered for Place {
 
     ghost total = { Prim.search rules };
 
-    fn precedes(&self, other: &Place) -> bool {
-        self.0 < other.0
-    }
+    ghost agrees = { Prim.search rules };
 }

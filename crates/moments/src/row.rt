@@ -1,21 +1,23 @@
-ghost use Rattle.std.specs.Prelude.{◌≡◌, ◌+◌, ◌<◌, ◌≤◌, [], length, Ok, Err};
+ghost use Rattle.std.specs.Prelude.{◌≡◌, ◌+◌, ◌<◌, ◌≤◌, [], length, take, Ok, Err};
 ghost use Rattle.std.specs.List.{slice_get, insert};
-ghost use Rattle.moments.specs.Rows.{Adds, count, kept, slots_of};
-ghost use Rattle.moments.specs.Order.{Ascending, found, rank};
+ghost use Rattle.moments.specs.Order.{Ascending, found};
 
 use crate::ordered::Ordered;
 use terms::Refusal;
 
 // Things of an ordered kind, each before the next, in the first of the slots that were lent. A row is empty when it is made, and only
-// `add` and `clear` change it, so its things always ascend; each contract says what follows from that and that it stays so.
-// The slots past the count are open: what stands there is nobody's.
+// `add` and `clear` change it. The slots past its length are open: what stands there is nobody's.
 #[derive(Drop)]
-pub struct Row<'a, T> {
+pub struct Row<'a, T: Ordered> {
     slots: &'a mut [T],
     len: usize,
+    pub ghost fits: { len ≤ length slots.now },
+    pub ghost ascends: { Ascending T.before (take len slots.now) },
 }
 
 impl<'a, T: Ordered> Row<'a, T> {
+    ghost use Rattle.moments.specs.Rows.{Adds, count, kept, slots_of};
+
     // An empty row. The slots stay as they are.
     pub fn new(slots: &'a mut [T]) -> Row<'a, T>
         ensures empty { kept result ≡ [] }
@@ -24,12 +26,12 @@ impl<'a, T: Ordered> Row<'a, T> {
         Row { slots, len: 0 }
     }
 
-    // How many it keeps. The field never passes the slots, but nothing in the type says so; the smaller of both needs no such fact.
+    // How many it keeps.
     pub fn len(&self) -> usize
         ensures value { result ≡ count self.now }
         ensures kept { result ≡ length (kept self.now) }
     {
-        self.len.min(self.slot_count())
+        self.kept().len()
     }
 
     // How many slots it has.
@@ -47,77 +49,48 @@ impl<'a, T: Ordered> Row<'a, T> {
         self.len = 0;
     }
 
+    // The slots in use.
+    fn kept(&self) -> &[T]
+        ensures { result.now ≡ kept self.now }
+    {
+        &self.slots[..self.len]
+    }
+
     // The thing at an index, from 0.
     pub fn get(&self, i: usize) -> Option<T>
         ensures { result ≡ slice_get (kept self.now) i }
     {
-        if i < self.len() {
-            let kept = &*self.slots;
-            let x = kept[i];
-            return Some(x);
-        }
-        None
-    }
-
-    // How many of the kept come before `x`, by halving.
-    fn rank(&self, x: T) -> usize
-        ensures within { result ≤ count self.now }
-        ensures place { Ascending T.before (kept self.now) → result ≡ rank T.before x (kept self.now) }
-    {
-        let mut low = 0;
-        let mut high = self.len();
-        let kept = &*self.slots;
-        while low < high {
-            let mid = low + (high - low) / 2;
-            let y = kept[mid];
-            if y.precedes(&x) {
-                low = mid + 1;
-            } else {
-                high = mid;
-            }
-        }
-        low
+        self.kept().get(i).copied()
     }
 
     // The index of `x` if it is kept, else the index where it belongs.
     pub fn find(&self, x: T) -> Result<usize, usize>
         ensures within { elim result [ Ok i ↦ i < count self.now | Err i ↦ i ≤ count self.now ] }
-        ensures place { Ascending T.before (kept self.now) → result ≡ found T.before x (kept self.now) }
+        ensures place { result ≡ found T.before x (kept self.now) }
     {
-        let at = self.rank(x);
-        if at < self.len() {
-            let kept = &*self.slots;
-            let y = kept[at];
-            if !x.precedes(&y) {
-                return Ok(at);
-            }
-        }
-        Err(at)
+        self.kept().binary_search(&x)
     }
 
-    // Writes `x` at `at`, and what stood there and after it one slot later.
+    // Writes `x` into the first open slot, and turns it from there into the slot where it belongs.
     fn insert(&mut self, at: usize, x: T)
-        requires { (at ≤ count self.old) × (count self.old < slots_of self.old) }
+        requires room { count self.old < slots_of self.old }
+        requires within { at ≤ count self.old }
+        requires place { Err at ≡ found T.before x (kept self.old) }
         ensures room { slots_of self.new ≡ slots_of self.old }
         ensures kept { kept self.new ≡ insert (kept self.old) at x }
     {
-        let count = self.len();
-        for j in (at..count).rev() {
-            let y = self.slots[j];
-            self.slots[j + 1] = y;
-        }
-        self.slots[at] = x;
-        self.len = count + 1;
+        self.slots[self.len] = x;
+        self.slots[at..=self.len].rotate_right(1);
+        self.len += 1;
     }
 
     // Keeps `x`, and says whether it is new. A new one without a slot is refused as full, and the row keeps what it kept.
     pub fn add(&mut self, x: T) -> Result<bool, Refusal>
         ensures room { slots_of self.new ≡ slots_of self.old }
-        ensures answer { Ascending T.before (kept self.old) → Adds T.before (slots_of self.old) (kept self.old) x result (kept self.new) }
+        ensures answer { Adds T.before (slots_of self.old) (kept self.old) x result (kept self.new) }
     {
-        let at = match self.find(x) {
-            Ok(_) => return Ok(false),
-            Err(at) => at,
+        let Err(at) = self.find(x) else {
+            return Ok(false);
         };
         if self.len() == self.slot_count() {
             return Err(Refusal::Full);

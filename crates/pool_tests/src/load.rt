@@ -1,5 +1,5 @@
 // One load of puts on both makes and on a set of the standard library, which has to agree with them answer for answer and member for member.
-use crate::asking::{Key, at, code, period};
+use crate::asking::{Key, Told, at, period, told};
 use pools::{GridPool, ListPool, Pool, list_members};
 use std::alloc::Global;
 use std::collections::BTreeSet;
@@ -29,14 +29,14 @@ fn off(key: Key) -> bool {
 }
 
 // What a put has to answer where the set is what was put so far.
-fn expected(set: &BTreeSet<Key>, key: Key, room: usize) -> u8 {
+fn expected(set: &BTreeSet<Key>, key: Key, room: usize) -> Told<()> {
     if off(key) {
-        return 20;
+        return Err(20);
     }
     if !set.contains(&key) && set.len() == room {
-        return 16;
+        return Err(16);
     }
-    0
+    Ok(())
 }
 
 // Puts the whole load, and keeps in a set what was accepted.
@@ -52,8 +52,8 @@ fn put_all<P: Pool>(
         v = next_number(v);
         let key = drawn(v);
         let answer = expected(&set, key, room);
-        assert_eq!(rt; code(pool.put(at(key))), answer);
-        if answer == 0 {
+        assert_eq!(rt; told(pool.put(at(key))), answer);
+        if answer.is_ok() {
             let _new = set.insert(key)?;
         }
     }

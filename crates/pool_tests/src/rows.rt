@@ -1,48 +1,81 @@
 // Rows of no slots, of one and of many, and rows of each ordered kind.
-use crate::asking::period;
+use crate::asking::{Told, period, told};
 use moments::{Day, Ordered, Row, SheetStamp};
 use std::process::Abort;
 use std::test::Fail;
-use terms::{Place, Refusal};
-
-// 0 for a thing that is there already, 1 for a new one, else the number of the refusal.
-fn added(answer: Result<bool, Refusal>) -> u8 {
-    match answer {
-        Ok(false) => 0,
-        Ok(true) => 1,
-        Err(refusal) => refusal.number(),
-    }
-}
+use terms::Place;
 
 // What is added in turn, with what that answers.
-type Adds = &'static [(u16, u8)];
+type Adds = &'static [(u16, Told<bool>)];
 
 // Slots, what is added, what is kept then, and a thing that is not kept with the index where it belongs.
 const CASES: [(usize, Adds, &[u16], (u16, usize)); 7] = [
-    (0, &[(4, 16)], &[], (4, 0)),
-    (1, &[(4, 1), (4, 0), (3, 16), (5, 16), (4, 0)], &[4], (5, 1)),
-    (4, &[(4, 1), (3, 1), (2, 1), (1, 1)], &[1, 2, 3, 4], (0, 0)),
+    (0, &[(4, Err(16))], &[], (4, 0)),
+    (
+        1,
+        &[
+            (4, Ok(true)),
+            (4, Ok(false)),
+            (3, Err(16)),
+            (5, Err(16)),
+            (4, Ok(false)),
+        ],
+        &[4],
+        (5, 1),
+    ),
     (
         4,
-        &[(1, 1), (2, 1), (3, 1), (4, 1), (5, 16)],
+        &[(4, Ok(true)), (3, Ok(true)), (2, Ok(true)), (1, Ok(true))],
+        &[1, 2, 3, 4],
+        (0, 0),
+    ),
+    (
+        4,
+        &[
+            (1, Ok(true)),
+            (2, Ok(true)),
+            (3, Ok(true)),
+            (4, Ok(true)),
+            (5, Err(16)),
+        ],
         &[1, 2, 3, 4],
         (5, 4),
     ),
     (
         5,
-        &[(9, 1), (0, 1), (5, 1), (5, 0), (7, 1)],
+        &[
+            (9, Ok(true)),
+            (0, Ok(true)),
+            (5, Ok(true)),
+            (5, Ok(false)),
+            (7, Ok(true)),
+        ],
         &[0, 5, 7, 9],
         (6, 2),
     ),
     (
         3,
-        &[(2, 1), (9, 1), (5, 1), (2, 0), (9, 0), (5, 0), (4, 16)],
+        &[
+            (2, Ok(true)),
+            (9, Ok(true)),
+            (5, Ok(true)),
+            (2, Ok(false)),
+            (9, Ok(false)),
+            (5, Ok(false)),
+            (4, Err(16)),
+        ],
         &[2, 5, 9],
         (4, 1),
     ),
     (
         8,
-        &[(6, 1), (65535, 1), (0, 1), (65535, 0), (1, 1)],
+        &[
+            (6, Ok(true)),
+            (65535, Ok(true)),
+            (0, Ok(true)),
+            (65535, Ok(false)),
+            (1, Ok(true)),
+        ],
         &[0, 1, 6, 65535],
         (7, 3),
     ),
@@ -55,7 +88,7 @@ fn places(rt: HostRuntime) -> Result<(), Fail> {
         assert!(rt; *room <= 8);
         let mut row = Row::new(&mut slots[0..*room]);
         for (n, expected) in *adds {
-            assert_eq!(rt; added(row.add(Place(*n))), *expected);
+            assert_eq!(rt; told(row.add(Place(*n))), *expected);
         }
         assert_eq!(rt; row.len(), kept.len());
         assert_eq!(rt; row.slot_count(), *room);
@@ -76,21 +109,20 @@ fn places(rt: HostRuntime) -> Result<(), Fail> {
 fn serves<T: Ordered>(rt: &impl Abort, slots: &mut [T], sorted: &[T; 4]) -> Result<(), Fail> {
     let mut row = Row::new(slots);
     for i in [2, 0, 3, 1] {
-        assert_eq!(rt; added(row.add(sorted[i])), 1);
+        assert_eq!(rt; told(row.add(sorted[i])), Ok(true));
     }
-    for i in 0..4 {
-        let x = sorted[i];
+    for (i, x) in sorted.iter().copied().enumerate() {
         assert!(rt; row.find(x) == Ok(i));
         let Some(y) = row.get(i) else {
             return Err(Fail::new("nothing there"));
         };
         assert!(rt; !x.precedes(&y) && !y.precedes(&x));
-        assert_eq!(rt; added(row.add(x)), 0);
+        assert_eq!(rt; told(row.add(x)), Ok(false));
     }
     row.clear();
     assert!(rt; row.len() == 0 && row.slot_count() == 4);
     assert!(rt; row.find(sorted[0]) == Err(0));
-    assert_eq!(rt; added(row.add(sorted[3])), 1);
+    assert_eq!(rt; told(row.add(sorted[3])), Ok(true));
     assert!(rt; row.len() == 1);
     Ok(())
 }

@@ -1,4 +1,5 @@
 pub mod Filters
+pub mod Firsts
 pub mod GridPuts
 pub mod Grids
 pub mod Marks

@@ -1,17 +1,19 @@
 -- The bits of a list of words: of none, and of one more.
-use Rattle.std.proofs.Common.{◌≡◌, ℕ, zero, suc, ◌+◌, ◌-◌, ◌/◌, ◌%◌, ◌^◌, ◌<◌, Bool, true, false, ◌||◌, eqb, ◌⊎◌, List, ◌++◌, length, get_or, set, replicate, sym, refl, ap, ◌∙◌, inl, inr, pow-suc, arith}
+use Rattle.std.proofs.Common.{◌≡◌, ℕ, zero, suc, ◌+◌, ◌-◌, ◌/◌, ◌%◌, ◌^◌, ◌<◌, Bool, true, false, ◌||◌, eqb, ◌⊎◌, List, ◌++◌, length, get_or, set, replicate, sym, refl, ap, ◌∙◌, inl, inr, Some, None, Option, MatchOption, pow-suc, arith}
 use native.Mathlib.Nat.{zero-div, div_self, div-eq_of_lt, mul-mod_left}
+use denote.Ref.{Bor}
 use lib.Bits.{bit_and, bit_or}
+use Rattle.std.specs.Option.{option_map, unwrap_or}
 use Rattle.std.proofs.lemmas.Nat.{pow_pos, pow-add, and_mask, or_shr, or_mod, shl-shr, pow_below, mod_below}
 use Rattle.std.proofs.lemmas.List.{get_or-set_same, get_or-set_other, get_or_append_left, get_or-replicate, length-replicate}
 use Rattle.std.proofs.lemmas.Bool.{cases_order, cases_eq, eq-eqb, ne_eqb}
 use Rattle.pools.specs.Cells.{bit, bit_at, with_bit}
 
-pub bit_none : (j : ℕ) → bit 0 j ≡ false
+bit_none : (j : ℕ) → bit 0 j ≡ false
 unfolding bit
 bit_none j = ap (λ x. eqb (x % 2) 1) (zero-div (2 ^ j))
 
-pub bit_has : (n i : ℕ) → eqb (bit_and (n / 2 ^ i) 1) 1 ≡ bit n i
+bit_has : (n i : ℕ) → eqb (bit_and (n / 2 ^ i) 1) 1 ≡ bit n i
 unfolding bit
 bit_has n i = ap (λ x. eqb x 1) (and_mask (n / 2 ^ i) 1)
 
@@ -67,3 +69,9 @@ pub marked_none : (n k : ℕ) (rest : List ℕ) → k / 32 < n → bit_at (repli
 marked_none n k rest l =
     let q : length (replicate {A = ℕ} n 0) ≡ n = length-replicate n 0 in
     ap (λ (x : ℕ). bit x (k % 32)) (get_or_append_left (replicate n 0) rest 0 (k / 32) (omega arith) ∙ get_or-replicate n (k / 32) 0 0 l) ∙ bit_none (k % 32)
+
+-- a bit as `get` reads its word
+pub bit_read : (words : List ℕ) (k : ℕ) (word : Option (Bor ℕ)) (r : Bool) → unwrap_or (option_map (λ w. w.now) word) 0 ≡ get_or words (k / 32) 0
+    → MatchOption word (r ≡ false) (λ w. r ≡ eqb (bit_and (w.now / 2 ^ (k % 32)) 1) 1) → r ≡ bit_at words k
+bit_read words k None r e h = h ∙ (sym (bit_none (k % 32)) ∙ ap (λ (x : ℕ). bit x (k % 32)) e)
+bit_read words k (Some w) r e h = h ∙ (bit_has w.now (k % 32) ∙ ap (λ (x : ℕ). bit x (k % 32)) e)

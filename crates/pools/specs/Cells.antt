@@ -1,5 +1,5 @@
 -- The grid: all periods of so many labels and places, and a bit for each.
-use Rattle.std.specs.Prelude.{◌≡◌, ℕ, zero, suc, ◌+◌, ◌*◌, ◌/◌, ◌%◌, ◌^◌, ◌<◌, ◌≤◌, Bool, true, false, cond, not, ◌&&◌, List, [], ◌∷◌, ◌++◌, drop, replicate, Ok, Err, Result, ◌==◌, bit_or, nat_le, nat_lt, slice_index, slice_set}
+use Rattle.std.specs.Prelude.{◌≡◌, ℕ, zero, suc, ◌+◌, ◌*◌, ◌/◌, ◌%◌, ◌^◌, ◌<◌, ◌≤◌, Bool, true, false, cond, not, ◌&&◌, List, [], ◌∷◌, ◌++◌, drop, replicate, filter, Ok, Err, Result, ◌==◌, bit_or, nat_le, nat_lt, slice_index, slice_set}
 use Rattle.terms.specs.declared.refusal.Refusal.{Refusal}
 use Rattle.terms.specs.declared.refusal.Refusal.TheVariants.{BadMeasure}
 use Rattle.pools.specs.declared.size.Size.{Size}
@@ -31,11 +31,6 @@ by_label places l (suc n) = by_start l 0 places ++ by_label places (suc l) n
 abbrev pub every : ℕ → ℕ → List Span
 every labels places = by_label places 0 labels
 
--- those that pass a test
-abbrev pub filtered : {A : Type 0} → (A → Bool) → List A → List A
-filtered f [] = []
-filtered f (x ∷ xs) = cond (f x) (x ∷ filtered f xs) (filtered f xs)
-
 -- ---- their bits
 
 -- 0, 1, 3, 6 and so on: how many periods of one label lie within n places
@@ -60,7 +55,7 @@ has_bit places words p = bit_at words (bit_number places p)
 
 -- the members of a grid: of all periods those whose bit is 1
 abbrev pub on_grid : ℕ → ℕ → List ℕ → List Span
-on_grid labels places words = filtered (has_bit places words) (every labels places)
+on_grid labels places words = filter (has_bit places words) (every labels places)
 
 -- ---- its measure
 

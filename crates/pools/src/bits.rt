@@ -16,12 +16,13 @@ impl<'a> Bits<'a> {
         Bits { words }
     }
 
+    // Whether a bit is 1. Past the words none is.
     pub(crate) fn has(&self, k: usize) -> bool
-        requires { k / 32 < length self.now.words.now }
         ensures { result ≡ bit_at self.now.words.now k }
     {
-        let word = self.words[k / WORD_BITS];
-        (word >> (k % WORD_BITS)) & 1 == 1
+        self.words
+            .get(k / WORD_BITS)
+            .is_some_and(|word| (word >> (k % WORD_BITS)) & 1 == 1)
     }
 
     // Makes a bit 1.
@@ -29,8 +30,7 @@ impl<'a> Bits<'a> {
         requires { k / 32 < length self.old.words.now }
         ensures { self.new.words.now ≡ with_bit self.old.words.now k }
     {
-        let word = self.words[k / WORD_BITS];
-        self.words[k / WORD_BITS] = word | (1 << (k % WORD_BITS));
+        self.words[k / WORD_BITS] |= 1 << (k % WORD_BITS);
     }
 
     // Makes the first `n` words 0.
@@ -38,8 +38,14 @@ impl<'a> Bits<'a> {
         requires { n ≤ length self.old.words.now }
         ensures { self.new.words.now ≡ replicate n 0 ++ drop n self.old.words.now }
     {
-        for i in 0..n {
-            self.words[i] = 0;
-        }
+        wipe_front(self.words, n);
     }
+}
+
+// A function of the words alone, since behind `self` the proof does not learn what `fill` writes into a part of them.
+fn wipe_front(words: &mut [u32], n: usize)
+    requires { n ≤ length words.old }
+    ensures { words.new ≡ replicate n 0 ++ drop n words.old }
+{
+    words[..n].fill(0);
 }

@@ -3,13 +3,13 @@ ghost use Rattle.std.specs.Prelude.{◌≡◌, [], length, if◌then◌else◌};
 ghost use Rattle.pools.specs.Sets.{Puts};
 ghost use Rattle.pools.specs.Cells.{measures, wiped_words};
 ghost use Rattle.pools.specs.GridPools.{words_of, members_of, size_of, wiped, put_into, LaidSince};
+ghost use Rattle.pools.specs.Laws.Grids.{grid_sound};
 
 use crate::bits::Bits;
 use crate::grid::GridPool;
-use crate::measure::{bit_of, check_measure, triangle, words_for};
+use crate::measure::Measure;
 use crate::period::Period;
-use crate::pool::{Pool, fits};
-use crate::scan::next_end;
+use crate::pool::Pool;
 use crate::size::Size;
 use terms::{Place, Refusal};
 
@@ -18,26 +18,18 @@ impl<'a> GridPool<'a> {
     // as they are.
     pub fn new(words: &'a mut [u32], labels: usize, places: usize) -> GridPool<'a>
         ensures empty { members_of result ≡ [] }
-        ensures labels { result.labels ≡ (if measures labels places (length words.old) then labels else 0) }
-        ensures places { result.places ≡ (if measures labels places (length words.old) then places else 0) }
+        ensures labels { result.measure.labels ≡ (if measures labels places (length words.old) then labels else 0) }
+        ensures places { result.measure.places ≡ (if measures labels places (length words.old) then places else 0) }
         ensures words { words_of result ≡ (if measures labels places (length words.old) then wiped_words labels places words.old else words.old) }
         ensures laid { LaidSince words.old result }
     {
         let room = words.len();
+        let measure = Measure::new(labels, places, room).unwrap_or(Measure::NOTHING);
         let mut bits = Bits::new(words);
-        let Ok(_) = check_measure(labels, places, room) else {
-            return GridPool {
-                bits,
-                labels: 0,
-                places: 0,
-                held: 0,
-            };
-        };
-        bits.wipe(words_for(labels, places));
+        bits.wipe(measure.words());
         GridPool {
+            measure,
             bits,
-            labels,
-            places,
             held: 0,
         }
     }
@@ -48,13 +40,13 @@ impl<'a> Pool for GridPool<'a> {
 
     ghost sized = { size_of };
 
-    ghost sound = { λ s. record { ascending = s.sorted; bounded = s.bounded; inside = s.inside } };
+    ghost sound = { λ s. grid_sound s.measure.labels s.measure.places (words_of s) };
 
     fn size(&self) -> Size {
         Size {
-            labels: self.labels,
-            places: self.places,
-            capacity: self.labels * triangle(self.places),
+            labels: self.measure.labels,
+            places: self.measure.places,
+            capacity: self.measure.periods(),
         }
     }
 
@@ -68,7 +60,7 @@ impl<'a> Pool for GridPool<'a> {
         ensures words { words_of self.new ≡ wiped self.old }
         ensures laid { LaidSince (words_of self.old) self.new }
     {
-        self.bits.wipe(words_for(self.labels, self.places));
+        self.bits.wipe(self.measure.words());
         self.held = 0;
     }
 
@@ -78,20 +70,18 @@ impl<'a> Pool for GridPool<'a> {
         ensures words { words_of self.new ≡ put_into self.old p }
         ensures laid { LaidSince (words_of self.old) self.new }
     {
-        if !fits(self.labels, self.places, p) {
+        if !self.measure.fits(p) {
             return Err(Refusal::OffThePool);
         }
-        let k = bit_of(self.places, p);
-        if self.bits.has(k) {
-            return Ok(());
+        if !self.marks(p) {
+            self.bits.mark(self.measure.bit_of(p));
+            self.held += 1;
         }
-        self.bits.mark(k);
-        self.held += 1;
         Ok(())
     }
 
     fn has(&self, p: Period<Place>) -> bool {
-        fits(self.labels, self.places, p) && self.bits.has(bit_of(self.places, p))
+        self.measure.fits(p) && self.marks(p)
     }
 
     fn first(&self) -> Option<Period<Place>> {
@@ -99,17 +89,18 @@ impl<'a> Pool for GridPool<'a> {
     }
 
     fn next(&self, after: Period<Place>) -> Option<Period<Place>> {
-        let label = after.label.0 as usize;
-        let start = after.start.0 as usize;
-        if label >= self.labels {
+        if after.label.0 as usize >= self.measure.labels {
             return None;
         }
-        if let Some(p) = self.scan_ends(after.label, after.start, next_end(after)) {
+        let start = after.start.0 as usize;
+        let later_end = start.max(after.end.0 as usize + 1);
+        // `or_else` would do, but the proof learns nothing of what a closure over lent words gives it.
+        if let Some(p) = self.scan_ends(after.label, after.start, later_end) {
             return Some(p);
         }
         if let Some(p) = self.scan_starts(after.label, start + 1) {
             return Some(p);
         }
-        self.scan_labels(label + 1)
+        self.scan_labels(after.label.0 as usize + 1)
     }
 }

@@ -3,15 +3,14 @@ ghost use Rattle.moments.specs.Rows.{kept, slots_of};
 ghost use Rattle.pools.specs.ListPools.{list_size, shut_out};
 ghost use Rattle.pools.specs.Sets.{Ascending, all_in_bounds};
 
+use crate::measure::Measure;
 use crate::period::Period;
-use crate::pool::{Pool, fits};
+use crate::pool::Pool;
 use crate::size::Size;
 use moments::Row;
 use terms::{Place, Refusal};
 
-const LABELS: usize = 32;
-
-const PLACES: usize = 256;
+const MEASURE: Measure = Measure::MOST;
 
 const MOST_PERIODS: usize = 4096;
 
@@ -20,7 +19,6 @@ const MOST_PERIODS: usize = 4096;
 #[derive(Drop)]
 pub struct ListPool<'a> {
     row: Row<'a, Period<Place>>,
-    ghost sorted: { Ascending (kept row) },
     ghost few: { length (kept row) ≤ min 4096 (slots_of row) },
     ghost inside: { all_in_bounds 32 256 (kept row) ≡ true },
 }
@@ -48,12 +46,12 @@ impl<'a> Pool for ListPool<'a> {
 
     ghost sized = { λ s. list_size (slots_of s.row) };
 
-    ghost sound = { λ s. record { ascending = s.sorted; bounded = s.few; inside = s.inside } };
+    ghost sound = { λ s. record { ascending = s.row.ascends; bounded = s.few; inside = s.inside } };
 
     fn size(&self) -> Size {
         Size {
-            labels: LABELS,
-            places: PLACES,
+            labels: MEASURE.labels,
+            places: MEASURE.places,
             capacity: MOST_PERIODS.min(self.row.slot_count()),
         }
     }
@@ -67,21 +65,17 @@ impl<'a> Pool for ListPool<'a> {
     }
 
     fn put(&mut self, p: Period<Place>) -> Result<(), Refusal> {
-        if !fits(LABELS, PLACES, p) {
+        if !MEASURE.fits(p) {
             return Err(Refusal::OffThePool);
         }
         if self.shuts_out(p) {
             return Err(Refusal::Full);
         }
-        self.row.add(p)?;
-        Ok(())
+        self.row.add(p).map(|_| ())
     }
 
     fn has(&self, p: Period<Place>) -> bool {
-        match self.row.find(p) {
-            Ok(_) => true,
-            Err(_) => false,
-        }
+        self.row.find(p).is_ok()
     }
 
     fn first(&self) -> Option<Period<Place>> {

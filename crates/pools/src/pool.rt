@@ -1,7 +1,7 @@
 ghost use Rattle.std.specs.Prelude.{◌≡◌, List, [], length};
 ghost use Rattle.pools.specs.declared.size.Size.{Size};
 ghost use Rattle.pools.specs.Periods.{Span};
-ghost use Rattle.pools.specs.Sets.{Sound, Puts, in_bounds, least_after, member};
+ghost use Rattle.pools.specs.Sets.{Sound, Puts, least_after, member};
 ghost use Rattle.moments.specs.Order.{least};
 
 use crate::period::Period;
@@ -16,9 +16,6 @@ pub trait Pool {
 
     // the three numbers
     ghost sized: { Self → Size };
-
-    // the members ascend, are no more than the capacity, and are in bounds
-    ghost sound: { (s : Self) → Sound (sized s) (members s) };
 
     // The three numbers.
     fn size(&self) -> Size
@@ -50,11 +47,7 @@ pub trait Pool {
     // The least member that is later than a period, which need be no member, nor in bounds.
     fn next(&self, after: Period<Place>) -> Option<Period<Place>>
         ensures { result ≡ least_after after (members self.now) };
-}
 
-// Whether a period is within so many labels and places, and not backwards.
-pub(crate) fn fits(labels: usize, places: usize, p: Period<Place>) -> bool
-    ensures { result ≡ in_bounds labels places p }
-{
-    (p.label.0 as usize) < labels && (p.end.0 as usize) < places && p.start.0 <= p.end.0
+    // the members ascend, are no more than the capacity, and are in bounds
+    ghost sound: { (s : Self) → Sound (sized s) (members s) };
 }

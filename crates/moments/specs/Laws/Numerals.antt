@@ -2,7 +2,6 @@
 use Rattle.std.specs.Prelude.{◌≡◌, ℕ, zero, suc, ◌+◌, ◌-◌, ◌*◌, ◌^◌, ◌<◌, ◌≤◌, true, false, List, [], ◌∷◌, ◌++◌, length, take, replicate, decimal, slice_index, refl}
 use Rattle.std.proofs.Common.{sym, ap, subst, ◌∙◌, inl, inr, arith}
 use Rattle.std.specs.Str.Parse.{digits_value}
-use Rattle.std.specs.Int.{IsInRange}
 use Rattle.std.specs.Char.{is_ascii_digit, digit_value}
 use Rattle.std.specs.Str.{all_ascii_digits}
 use Rattle.std.proofs.lemmas.Int.Digits.{digits_value_more, digits_more}
@@ -17,9 +16,9 @@ pub own : IsNumeralModel (λ ds. all_ascii_digits ds ≡ true) (digits_value 10)
 own = numerals_by_value (λ ds. all_ascii_digits ds ≡ true) tells_all_ascii_digits
 
 -- a byte that is no digit
-pub not_digits : (ds : List ℕ) (i : ℕ) → i < length ds → (IsInRange 48 57 (slice_index ds i) → ⊥) → all_ascii_digits ds ≡ false
+pub not_digits : (ds : List ℕ) (i : ℕ) → i < length ds → (digit_value (slice_index ds i) < 10 → ⊥) → all_ascii_digits ds ≡ false
 not_digits ds i l n = elim (cases_Bool (all_ascii_digits ds)) [
-  | inl t ↦ absurd (n (digit_at ds i (own.to ds t) l))
+  | inl t ↦ let e = digit_value_digit (slice_index ds i) (digit_at ds i (own.to ds t) l) in let d = digit_at ds i (own.to ds t) l in absurd (n (omega arith))
   | inr f ↦ f
 ]
 
@@ -30,15 +29,8 @@ number_fits ds i n m l t e =
     let h : digits_value 10 (take i ds) < 10 ^ 8 = digits_value_short own (take i ds) 8 t short in
     omega arith
 
-digits_of : (ds : List ℕ) (i : ℕ) → i < length ds → all_ascii_digits (take i ds) ≡ true → IsInRange 48 57 (slice_index ds i) → all_ascii_digits (take (i + 1) ds) ≡ true
-digits_of ds i l t d =
-    own.from (take (i + 1) ds) (digits_more 10 ds i l (own.to (take i ds) t) (let e = digit_value_digit (slice_index ds i) d in omega arith))
-
-pub number_more : (ds : List ℕ) (i n v : ℕ) → i < length ds → all_ascii_digits (take i ds) ≡ true → n ≡ digits_value 10 (take i ds) → IsInRange 48 57 (slice_index ds i) → v + 48 ≡ slice_index ds i → (all_ascii_digits (take (i + 1) ds) ≡ true) × (n * 10 + v ≡ digits_value 10 (take (i + 1) ds))
-number_more ds i n v l t e d w =
-    let q = digit_value_digit (slice_index ds i) d in
-    let f : v ≡ digit_value (slice_index ds i) = omega arith in
-    (digits_of ds i l t d, rw (digits_value_more 10 ds i l, f, e) refl)
+pub number_more : (ds : List ℕ) (i n v : ℕ) → i < length ds → all_ascii_digits (take i ds) ≡ true → n ≡ digits_value 10 (take i ds) → digit_value (slice_index ds i) < 10 → v ≡ digit_value (slice_index ds i) → (all_ascii_digits (take (i + 1) ds) ≡ true) × (n * 10 + v ≡ digits_value 10 (take (i + 1) ds))
+number_more ds i n v l t e d w = (own.from (take (i + 1) ds) (digits_more 10 ds i l (own.to (take i ds) t) d), rw (digits_value_more 10 ds i l, w, e) refl)
 
 zeros_value : (k : ℕ) (ds : List ℕ) → digits_value 10 (replicate k 48 ++ ds) ≡ digits_value 10 ds
 zeros_value zero ds = refl

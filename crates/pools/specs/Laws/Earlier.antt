@@ -1,6 +1,11 @@
--- The order of periods is strict and total, and what it says at places.
-use Rattle.std.specs.Prelude.{◌≡◌, ◌<◌, ◌≤◌, Bool, true, false, nat_lt}
-use Rattle.std.proofs.Common.{◌∙◌}
+-- The order of periods is strict and total, and that of std's comparisons; what it says at places.
+use Rattle.std.specs.Prelude.{◌≡◌, ℕ, ◌<◌, ◌≤◌, Bool, true, false, not, ◌&&◌, ◌||◌, nat_lt, refl}
+use Rattle.std.proofs.Common.{◌∙◌, ap, rules}
+use Rattle.std.specs.declared.cmp.Ordering.{Ordering}
+use Rattle.std.specs.declared.cmp.Ordering.TheVariants.{Less, Equal, Greater}
+use Rattle.std.specs.Ordering.{is_lt, nat_cmp, ordering_reverse, ordering_then}
+use Rattle.std.specs.Cmp.{IsTotalOrder}
+use Rattle.std.proofs.lemmas.Cmp.{nat_cmp_total}
 use Rattle.std.proofs.lemmas.Bool.{lt-ltb, le-ltb}
 use Rattle.terms.specs.declared.numbers.Place.{Place}
 use Rattle.pools.specs.declared.period.Period.{Period}
@@ -26,6 +31,28 @@ module _ {M : Type 0} (before : M → M → Bool) (laws : StrictTotalOrder befor
     transitive = first_transitive nat_lt nat_lt_laws (λ p. p.label.0) by_start (first_transitive before laws (λ p. p.start) by_end (λ p q r. laws.transitive p.end q.end r.end));
   }
 
+-- ---- by std's comparisons
+by_cases : (o n : Ordering) (rest : Bool) → rest ≡ is_lt n → (is_lt o || (not (is_lt (ordering_reverse o)) && rest)) ≡ is_lt (ordering_then o n)
+by_cases Less n rest e = refl
+by_cases Equal n rest e = e
+by_cases Greater n rest e = refl
+
+first_agrees : {X A : Type 0} (before : A → A → Bool) (cmp : A → A → Ordering) (total : IsTotalOrder cmp) (agrees : (a b : A) → before a b ≡ is_lt (cmp a b)) (part : X → A) (rest : X → X → Bool) (x y : X) (n : Ordering)
+    → rest x y ≡ is_lt n → first_by before part rest x y ≡ is_lt (ordering_then (cmp (part x) (part y)) n)
+first_agrees before cmp total agrees part rest x y n e =
+    let back : before (part y) (part x) ≡ is_lt (ordering_reverse (cmp (part x) (part y))) = agrees (part y) (part x) ∙ ap is_lt (total.antisymm (part y) (part x)) in
+    rw (agrees (part x) (part y), back) (by_cases (cmp (part x) (part y)) n (rest x y) e)
+
+nat_agrees : (a b : ℕ) → nat_lt a b ≡ is_lt (nat_cmp a b)
+nat_agrees a b = search rules
+
+pub earlier_agrees : {M : Type 0} (before : M → M → Bool) (cmp : M → M → Ordering) (total : IsTotalOrder cmp) (agrees : (a b : M) → before a b ≡ is_lt (cmp a b)) (x y : Period M)
+    → earlier before x y ≡ is_lt (ordering_then (nat_cmp x.label.0 y.label.0) (ordering_then (cmp x.start y.start) (cmp x.end y.end)))
+earlier_agrees before cmp total agrees x y =
+    first_agrees nat_lt nat_cmp nat_cmp_total nat_agrees (λ p. p.label.0) (first_by before (λ p. p.start) (λ p q. before p.end q.end)) x y _
+    (first_agrees before cmp total agrees (λ p. p.start) (λ p q. before p.end q.end) x y _ (agrees x.end y.end))
+
+-- ---- at places
 abbrev place_before : Place → Place → Bool
 place_before p q = nat_lt p.0 q.0
 

@@ -1,28 +1,25 @@
-use Rattle.std.proofs.Common.{◌≡◌, ◌<◌, length, get_or, sym, ◌∙◌, inl, inr, arith}
-use Rattle.std.proofs.lemmas.Bool.{eqb-true, eqb-false}
+use Rattle.std.proofs.Common.{rules, ◌≡◌, length, get_or, inl, inr, arith}
 use Rattle.moments.specs.Laws.DayTexts.{day-length, day_leading, day_digits, day_no_digits}
 use Rattle.moments.proofs.day.DayMoment.read.Goals as goal
-use Rattle.moments.proofs.day.DayMoment.read.Goals.{else-field-eq48-via-then-field-eq48+else-field-gt1, else-field-eq48-via-else-field-eq48}
+use Rattle.moments.proofs.day.DayMoment.read.Goals.{in_default-via-then-field-lt2, in_default-via-else-field-lt2+in_default-1}
 
-pub returns-then-is_empty : goal.returns-then-is_empty
-returns-then-is_empty c = elim c.then-is_empty.either [
-  | inl t ↦ day-length c.args.field.now (inl (eqb-true (length c.args.field.now) 0 (sym c.is_empty.ensures ∙ t)))
-  | inr p ↦ day-length c.args.field.now (inr (omega arith))
-]
+pub returns-in-empty : goal.returns-in-empty
+returns-in-empty c = day-length c.args.field.now (inl (omega arith))
 
-pub returns-then-field-gt1 : goal.returns-then-field-gt1
-returns-then-field-gt1 c = day_leading c.args.field.now c.if-field-eq48.true c.if-field-gt1.true
+pub returns-in-48 : goal.returns-in-48
+returns-in-48 c = day_leading c.args.field.now (search rules) (omega arith)
 
-pub returns-in-Some : goal.returns-in-Some
-returns-in-Some c =
-    let some : length c.args.field.now ≡ 0 → ⊥ = eqb-false (length c.args.field.now) 0 (sym c.if-is_empty.ensures) in
-    let many : 0 < length c.args.field.now = omega arith in
-    let front : get_or c.args.field.now 0 0 ≡ 48 → length c.args.field.now ≡ 1 = λ z. elim c.else-field-eq48.branch [
-      | else-field-eq48-via-then-field-eq48+else-field-gt1 w ↦ omega arith
-      | else-field-eq48-via-else-field-eq48 w ↦ absurd (w.if-field-eq48.false z)
+pub returns-in_default : goal.returns-in_default
+returns-in_default c = day-length c.args.field.now (inr (omega arith))
+
+pub returns-in_err-number-in_default-2 : goal.returns-in_err-number-in_default-2
+returns-in_err-number-in_default-2 c = rw c.from_residual.ensures (day_no_digits c.args.field.now c.in_err-number-in_default-2.ensures)
+
+pub returns-in_ok-number-in_default-2 : goal.returns-in_ok-number-in_default-2
+returns-in_ok-number-in_default-2 c =
+    let front : get_or c.args.field.now 0 0 ≡ 48 → length c.args.field.now ≡ 1 = λ z. elim c.in_default.branch [
+      | in_default-via-then-field-lt2 w ↦ search rules
+      | in_default-via-else-field-lt2+in_default-1 w ↦ search rules
     ] in
-    let e = c.in-Some.ensures in
-    day_digits c.args.field.now c.in-Some.n many (omega arith) front e.0 e.1
-
-pub returns-in-None : goal.returns-in-None
-returns-in-None c = day_no_digits c.args.field.now c.in-None.ensures
+    let d = c.in_ok-number-in_default-2.ensures in
+    day_digits c.args.field.now c.in_ok-number-in_default-2.field-0 (search rules) (omega arith) front d.0 d.1
