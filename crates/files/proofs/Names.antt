@@ -1,6 +1,6 @@
 -- Words and names: each relation has one word and each column one name, and from the word or the name it is found again.
-use Rattle.std.proofs.Common.{◌≡◌, ℕ, true, cond, List, [], ◌∷◌, map, is_some, Some, None, Option, unwrap_or, sym, refl, ap, ◌∙◌, subst, inl, inr, arith}
-use Rattle.std.proofs.lemmas.Bool.{false≢true, cases_Bool, cond-true, cond-false}
+use Rattle.std.proofs.Common.{◌≡◌, ℕ, true, List, [], ◌∷◌, map, is_some, Some, None, Option, unwrap_or, refl, ap, ◌∙◌, arith}
+use Rattle.std.proofs.lemmas.Bool.{false≢true}
 use Rattle.rules.specs.declared.relation.Relation.{Relation}
 use Rattle.rules.specs.declared.relation.Relation.TheVariants.{Before, Meet, During, Coincide, Start, Finish, Overlap, Slice, After, Follow, Contain}
 use Rattle.rules.specs.Labels.{is_label}

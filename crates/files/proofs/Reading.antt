@@ -15,11 +15,11 @@ use Rattle.files.specs.declared.columns.RuleColumn.{RuleColumn}
 use Rattle.files.specs.declared.columns.RuleColumn.TheVariants.{Label, First, How, Second}
 use Rattle.files.specs.declared.columns.ColumnOrder.{ColumnOrder}
 use Rattle.files.specs.declared.fault.FieldFault.{FieldFault}
-use Rattle.files.specs.declared.fault.FieldFault.TheVariants.{Misspelt, Unrelated}
+use Rattle.files.specs.declared.fault.FieldFlaw.TheVariants.{Misspelt, Unrelated}
 use Rattle.rules.specs.declared.rule.RuleWords.{RuleWords}
 use Rattle.files.specs.RuleFiles.{fits, misfit, first_misfit, bytes_under, rule_in}
 use Rattle.files.specs.Cells.{bytes_in}
-use Rattle.files.specs.Fields.{field_for, fault_in}
+use Rattle.files.specs.Fields.{field_for, fault_of, fault_in}
 use Rattle.files.specs.Faults.{field_told, reported}
 use Rattle.rules.specs.Drafts.{said_by}
 use Rattle.files.specs.Answers.{MisfitAt, Reads}
@@ -40,10 +40,10 @@ told_by c p false fault (Ok x) t e = absurd (grind arith)
 told_by c p false fault (Err y) t e = let same : y ≡ fault = cc in record { wrong = t.0; told = ap field_told same ∙ t.1 }
 
 pub cell_told : (c : RuleColumn) (p : Part) (r : Result (Unit {0}) FieldFault) → result_err r ≡ fault_in (field_for c p) → MatchResult r (λ _. fits c p.bytes.now ≡ true) (MisfitAt c p)
-cell_told Label p r e = told_by Label p (is_label p.bytes.now) (Misspelt p.line p.column) r (refl, refl) e
-cell_told First p r e = told_by First p (is_label p.bytes.now) (Misspelt p.line p.column) r (refl, refl) e
-cell_told How p r e = told_by How p (is_some (relation_named p.bytes.now)) (Unrelated p.line p.column) r (refl, refl) e
-cell_told Second p r e = told_by Second p (is_label p.bytes.now) (Misspelt p.line p.column) r (refl, refl) e
+cell_told Label p r e = told_by Label p (is_label p.bytes.now) (fault_of Misspelt p) r (refl, refl) e
+cell_told First p r e = told_by First p (is_label p.bytes.now) (fault_of Misspelt p) r (refl, refl) e
+cell_told How p r e = told_by How p (is_some (relation_named p.bytes.now)) (fault_of Unrelated p) r (refl, refl) e
+cell_told Second p r e = told_by Second p (is_label p.bytes.now) (fault_of Misspelt p) r (refl, refl) e
 
 -- ---- the four fields, from the left
 

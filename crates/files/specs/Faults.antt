@@ -8,7 +8,8 @@ use Rattle.rules.specs.declared.table.CloseFault.{CloseFault}
 use Rattle.rules.specs.declared.table.CloseFault.TheVariants as close
 use Rattle.files.specs.declared.fault.Report.{Report}
 use Rattle.files.specs.declared.fault.FieldFault.{FieldFault}
-use Rattle.files.specs.declared.fault.FieldFault.TheVariants.{Misspelt, Unrelated, NoAct, Undated, Stranger}
+use Rattle.files.specs.declared.fault.FieldFlaw.{FieldFlaw}
+use Rattle.files.specs.declared.fault.FieldFlaw.TheVariants.{Misspelt, Unrelated, NoAct, Undated, Stranger}
 use Rattle.files.specs.declared.fault.LineFault.{LineFault}
 use Rattle.files.specs.declared.fault.LineFault.TheVariants as ofLine
 use Rattle.files.specs.declared.fault.LineFault.TheVariants.{Unended, Ragged, Overfull, Field}
@@ -19,12 +20,15 @@ use Rattle.files.specs.declared.fault.FileFault.TheVariants.{Overlong, Headless,
 abbrev pub reported : Refusal → ℕ → ℕ → Report
 reported r line column = record { refusal = r; line = line; column = column }
 
+abbrev pub flaw_told : FieldFlaw → Refusal
+flaw_told Misspelt = refusal.Misspelt
+flaw_told Unrelated = refusal.Unrelated
+flaw_told NoAct = refusal.NoAct
+flaw_told Undated = refusal.Undated
+flaw_told Stranger = refusal.Stranger
+
 abbrev pub field_told : FieldFault → Report
-field_told (Misspelt line column) = reported refusal.Misspelt line column
-field_told (Unrelated line column) = reported refusal.Unrelated line column
-field_told (NoAct line column) = reported refusal.NoAct line column
-field_told (Undated line column) = reported refusal.Undated line column
-field_told (Stranger line column) = reported refusal.Stranger line column
+field_told fault = reported (flaw_told fault.flaw) fault.line fault.column
 
 abbrev pub line_told : LineFault → Option Report
 line_told (Unended line) = Some (reported refusal.Unended line 0)

@@ -1,28 +1,36 @@
 ghost use Rattle.std.specs.Prelude.{◌≡◌};
-ghost use Rattle.files.specs.Faults.{reported, field_told, line_told, file_told, unclosed};
+ghost use Rattle.files.specs.Faults.{reported, flaw_told, field_told, line_told, file_told, unclosed};
 ghost use Rattle.files.specs.declared.fault.LineFault.TheVariants.{Field as ofField};
 ghost use Rattle.files.specs.declared.fault.FileFault.TheVariants.{Line as ofLine};
 
 use rules::CloseFault;
 use terms::Refusal;
 
-// A field that is not what its column asks for. Lines and columns are counted from 1.
-#[derive(Clone, Copy)]
-pub enum FieldFault {
+// What is wrong with a field.
+#[derive(Clone, Copy, PartialEq, Eq, Debug)]
+pub enum FieldFlaw {
     // no label
-    Misspelt { line: usize, column: usize },
+    Misspelt,
     // no relation word
-    Unrelated { line: usize, column: usize },
+    Unrelated,
     // neither note nor strike
-    NoAct { line: usize, column: usize },
+    NoAct,
     // no moment
-    Undated { line: usize, column: usize },
+    Undated,
     // a label that the table does not have
-    Stranger { line: usize, column: usize },
+    Stranger,
+}
+
+// A field that is not what its column asks for. Lines and columns are counted from 1.
+#[derive(Clone, Copy, PartialEq, Eq, Debug)]
+pub struct FieldFault {
+    pub flaw: FieldFlaw,
+    pub line: usize,
+    pub column: usize,
 }
 
 // A line that cannot be read.
-#[derive(Clone, Copy)]
+#[derive(Clone, Copy, PartialEq, Eq, Debug)]
 pub enum LineFault {
     // without its line end
     Unended { line: usize },
@@ -37,7 +45,7 @@ pub enum LineFault {
 }
 
 // A file that cannot be read.
-#[derive(Clone, Copy)]
+#[derive(Clone, Copy, PartialEq, Eq, Debug)]
 pub enum FileFault {
     // with too many bytes
     Overlong,
@@ -51,8 +59,8 @@ pub enum FileFault {
     OutOfMemory,
 }
 
-// What a fault says: the refusal, its line and its column, each 0 where it does not apply.
-#[derive(Clone, Copy)]
+// What a fault says: the refusal, its line and its column, each 0 where it does not apply. (Numbers and no options: so the format writes them.)
+#[derive(Clone, Copy, PartialEq, Eq, Debug)]
 pub struct Report {
     pub refusal: Refusal,
     pub line: usize,
@@ -102,21 +110,29 @@ impl Report {
     }
 }
 
+impl FieldFlaw {
+    // The refusal of a field with this flaw.
+    pub fn refusal(self) -> Refusal
+        ensures { result ≡ flaw_told self }
+    {
+        match self {
+            FieldFlaw::Misspelt => Refusal::Misspelt,
+            FieldFlaw::Unrelated => Refusal::Unrelated,
+            FieldFlaw::NoAct => Refusal::NoAct,
+            FieldFlaw::Undated => Refusal::Undated,
+            FieldFlaw::Stranger => Refusal::Stranger,
+        }
+    }
+}
+
 impl FieldFault {
     pub fn report(self) -> Report
         ensures { result ≡ field_told self }
     {
-        let (refusal, line, column) = match self {
-            FieldFault::Misspelt { line, column } => (Refusal::Misspelt, line, column),
-            FieldFault::Unrelated { line, column } => (Refusal::Unrelated, line, column),
-            FieldFault::NoAct { line, column } => (Refusal::NoAct, line, column),
-            FieldFault::Undated { line, column } => (Refusal::Undated, line, column),
-            FieldFault::Stranger { line, column } => (Refusal::Stranger, line, column),
-        };
         Report {
-            refusal,
-            line,
-            column,
+            refusal: self.flaw.refusal(),
+            line: self.line,
+            column: self.column,
         }
     }
 }

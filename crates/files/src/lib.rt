@@ -10,7 +10,7 @@ mod rule_file;
 mod telling;
 
 pub use columns::RuleColumn;
-pub use fault::{FieldFault, FileFault, LineFault, Report};
+pub use fault::{FieldFault, FieldFlaw, FileFault, LineFault, Report};
 pub use field::Field;
 pub use parts::Part;
 pub use rule_file::read_rules;

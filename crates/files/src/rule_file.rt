@@ -26,7 +26,7 @@ fn check_cell(column: RuleColumn, cell: Part<'_>) -> Result<(), FieldFault>
     Field::under(column, cell).check_in_rule()
 }
 
-// The first wrong field from the left is refused.
+// The first wrong field from the left is refused. (The order is a file's and the cells are a line's: the two go side by side, in no struct of both.)
 fn check_cells(order: ColumnOrder, cells: Cells<'_>) -> Result<(), FieldFault>
     ensures { MatchResult result (λ _. first_misfit 1 order.columns (bytes_in cells.entry) ≡ None) (Misfits order cells.entry) }
 {
@@ -62,7 +62,7 @@ fn add_rule(draft: &mut Draft, words: RuleWords<'_>, line: usize) -> Result<(), 
     Ok(())
 }
 
-// The fault of a line whose rule was not added, where its labels are labels.
+// The fault of a line whose rule was not added, where its labels are labels. (It needs the line, so it is no `From`.)
 fn unadded_in(why: AddFault, line: usize) -> LineFault
     ensures { result ≡ unadded why line }
 {

@@ -6,7 +6,7 @@ use crate::fault::Report;
 use crate::rule_file::read_rules;
 use std::alloc::{AllocError, Global};
 
-// The number of a rule file among the files that a program reads.
+// The number of a rule file among the files that a program reads. (No enum of files: `refusal_text` takes any number, as its callers may have others.)
 const RULE_FILE: u8 = 1;
 
 // Why a rule file has no numbers to write.

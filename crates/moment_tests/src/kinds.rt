@@ -5,7 +5,7 @@ use std::process::Abort;
 use std::test::Fail;
 
 // A field, and the moment that is read.
-pub(crate) fn reads<P: Copy, K: Moment + Debug + PartialEq, F: Fn(P) -> K>(
+pub(crate) fn reads<P: Copy, K: Moment + Debug, F: Fn(P) -> K>(
     rt: &impl Abort,
     make: F,
     table: &[(&[u8], Option<P>)],
@@ -13,7 +13,7 @@ pub(crate) fn reads<P: Copy, K: Moment + Debug + PartialEq, F: Fn(P) -> K>(
     requires { F.IsAlwaysCallable make }
 {
     for (field, expected) in table {
-        assert_eq!(rt; K::read(field), expected.map(|p| make(p)));
+        assert_eq!(rt; K::read(field), expected.map(&make));
     }
 }
 

@@ -6,7 +6,7 @@ pub(crate) fn number(digits: &[u8]) -> Option<u32>
     requires { length digits.now ≤ 9 }
     ensures { NumberOf digits.now result }
 {
-    // a loop, since a fold's closure knows no bound of the total so far
+    // (A loop: tried as a `try_fold`, the sum has no bound that its closure knows.)
     let mut n = 0;
     for d in digits {
         n = n * 10 + char::from(*d).to_digit(10)?;

@@ -5,8 +5,8 @@ ghost use Rattle.moments.specs.Order.{Ascending, found};
 use crate::ordered::Ordered;
 use terms::Refusal;
 
-// Things of an ordered kind, each before the next, in the first of the slots that were lent. A row is empty when it is made, and only
-// `add` and `clear` change it. The slots past its length are open: what stands there is nobody's.
+// Things of an ordered kind, each before the next, in the first of the slots that were lent: a row takes no memory of its own. It is empty
+// when it is made, and only `add` and `clear` change it. The slots past its length are open: what stands there is nobody's.
 #[derive(Drop)]
 pub struct Row<'a, T: Ordered> {
     slots: &'a mut [T],

@@ -22,21 +22,14 @@ pub(crate) fn key_of(found: Option<Period<Place>>) -> Option<Key> {
     found.map(|p| (p.label.0, p.start.0, p.end.0))
 }
 
-// What a call answers, told by the number of its refusal where there is one.
-pub(crate) type Told<T> = Result<T, u8>;
-
-pub(crate) fn told<T>(answer: Result<T, Refusal>) -> Told<T> {
-    answer.map_err(|refusal| refusal.number())
-}
-
 // What is put in turn, and what that answers, in a pool with labels 0 and 1 and places 0 to 2, whatever its make.
-const PUTS: [(Key, Told<()>); 6] = [
+const PUTS: [(Key, Result<(), Refusal>); 6] = [
     ((1, 0, 2), Ok(())),
     ((0, 1, 2), Ok(())),
     ((1, 0, 2), Ok(())),
-    ((1, 2, 1), Err(20)),
-    ((40, 0, 0), Err(20)),
-    ((0, 0, 300), Err(20)),
+    ((1, 2, 1), Err(Refusal::OffThePool)),
+    ((40, 0, 0), Err(Refusal::OffThePool)),
+    ((0, 0, 300), Err(Refusal::OffThePool)),
 ];
 
 // Whether a period is a member then.
@@ -67,7 +60,7 @@ pub(crate) fn any_make<P: Pool>(rt: &impl Abort, pool: &mut P) {
     assert_eq!(rt; key_of(pool.first()), None);
     assert_eq!(rt; key_of(pool.next(period(0, 0, 0))), None);
     for (key, expected) in &PUTS {
-        assert_eq!(rt; told(pool.put(at(*key))), *expected);
+        assert_eq!(rt; pool.put(at(*key)), *expected);
     }
     assert_eq!(rt; pool.count(), 2);
     assert_eq!(rt; key_of(pool.first()), Some((0, 1, 2)));
@@ -80,9 +73,9 @@ pub(crate) fn any_make<P: Pool>(rt: &impl Abort, pool: &mut P) {
 }
 
 // A pool that takes nothing, for which each put answers what is expected.
-pub(crate) fn no_room<P: Pool>(rt: &impl Abort, pool: &mut P, expected: Told<()>) {
-    assert_eq!(rt; told(pool.put(period(0, 0, 0))), expected);
-    assert_eq!(rt; told(pool.put(period(0, 1, 0))), Err(20));
+pub(crate) fn no_room<P: Pool>(rt: &impl Abort, pool: &mut P, expected: Result<(), Refusal>) {
+    assert_eq!(rt; pool.put(period(0, 0, 0)), expected);
+    assert_eq!(rt; pool.put(period(0, 1, 0)), Err(Refusal::OffThePool));
     assert_eq!(rt; pool.count(), 0);
     assert_eq!(rt; pool.size().capacity, 0);
     assert!(rt; !pool.has(period(0, 0, 0)));

@@ -1,10 +1,11 @@
 // One load of puts on both makes and on a set of the standard library, which has to agree with them answer for answer and member for member.
-use crate::asking::{Key, Told, at, period, told};
+use crate::asking::{Key, at, period};
 use pools::{GridPool, ListPool, Pool, list_members};
 use std::alloc::Global;
 use std::collections::BTreeSet;
 use std::process::Abort;
 use std::test::Fail;
+use terms::Refusal;
 
 // By another calculation: of these, 467 are off the pool, and the other 433 are 321 different periods.
 const PUTS: usize = 900;
@@ -29,12 +30,12 @@ fn off(key: Key) -> bool {
 }
 
 // What a put has to answer where the set is what was put so far.
-fn expected(set: &BTreeSet<Key>, key: Key, room: usize) -> Told<()> {
+fn expected(set: &BTreeSet<Key>, key: Key, room: usize) -> Result<(), Refusal> {
     if off(key) {
-        return Err(20);
+        return Err(Refusal::OffThePool);
     }
     if !set.contains(&key) && set.len() == room {
-        return Err(16);
+        return Err(Refusal::Full);
     }
     Ok(())
 }
@@ -52,7 +53,7 @@ fn put_all<P: Pool>(
         v = next_number(v);
         let key = drawn(v);
         let answer = expected(&set, key, room);
-        assert_eq!(rt; told(pool.put(at(key))), answer);
+        assert_eq!(rt; pool.put(at(key)), answer);
         if answer.is_ok() {
             let _new = set.insert(key)?;
         }

@@ -94,7 +94,7 @@ impl<'a> Pool for GridPool<'a> {
         }
         let start = after.start.0 as usize;
         let later_end = start.max(after.end.0 as usize + 1);
-        // `or_else` would do, but the proof learns nothing of what a closure over lent words gives it.
+        // (A chain of `or_else` would need a contract written at each closure.)
         if let Some(p) = self.scan_ends(after.label, after.start, later_end) {
             return Some(p);
         }

@@ -1,9 +1,10 @@
 use files::read_rules;
 use std::alloc::Global;
 use std::test::Fail;
+use terms::Refusal;
 
-// What a file answers: the numbers of rules and of labels, or the refusal's number with line and column.
-pub(crate) type Answer = Result<(usize, usize), (u8, usize, usize)>;
+// What a file answers: the numbers of rules and of labels, or the refusal with line and column.
+pub(crate) type Answer = Result<(usize, usize), (Refusal, usize, usize)>;
 
 pub(crate) fn ask(heap: Global, bytes: &[u8]) -> Result<Answer, Fail> {
     match read_rules(heap, bytes) {
@@ -12,7 +13,7 @@ pub(crate) fn ask(heap: Global, bytes: &[u8]) -> Result<Answer, Fail> {
             let Some(report) = fault.report() else {
                 return Err(Fail::new("no memory"));
             };
-            Ok(Err((report.refusal.number(), report.line, report.column)))
+            Ok(Err((report.refusal, report.line, report.column)))
         }
     }
 }

@@ -9,3 +9,5 @@ mod limits;
 mod refusals;
 #[cfg(test)]
 mod rings;
+#[cfg(test)]
+mod words;

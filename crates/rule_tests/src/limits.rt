@@ -5,7 +5,7 @@ use crate::asking::ask;
 use files::read_rules;
 use std::alloc::{AllocError, Global};
 use std::test::Fail;
-use terms::LabelNo;
+use terms::{LabelNo, Refusal};
 
 const NAMES: &str = "label,first,how,second\n";
 
@@ -32,27 +32,39 @@ fn of_labels(heap: Global, count: usize) -> Result<String, AllocError> {
 fn rules_and_labels(rt: HostRuntime) -> Result<(), Fail> {
     let heap = rt.alloc();
     assert_eq!(rt; ask(heap, of_rules(heap, 48)?.as_bytes())?, Ok((48, 1)));
-    assert_eq!(rt; ask(heap, of_rules(heap, 49)?.as_bytes())?, Err((5, 50, 0)));
+    assert_eq!(rt;
+        ask(heap, of_rules(heap, 49)?.as_bytes())?,
+        Err((Refusal::Overfull, 50, 0))
+    );
     assert_eq!(rt; ask(heap, of_labels(heap, 32)?.as_bytes())?, Ok((32, 32)));
     assert_eq!(rt;
         ask(heap, of_labels(heap, 33)?.as_bytes())?,
-        Err((5, 34, 0))
+        Err((Refusal::Overfull, 34, 0))
     );
     // a line that brings the 32nd label and the 33rd
     let mut both = of_labels(heap, 31)?;
     both.push_str("l0,x,meet,y\n")?;
-    assert_eq!(rt; ask(heap, both.as_bytes())?, Err((5, 33, 0)));
+    assert_eq!(rt;
+        ask(heap, both.as_bytes())?,
+        Err((Refusal::Overfull, 33, 0))
+    );
     // a line that is the 49th rule and brings the 33rd label
     let mut last = of_labels(heap, 32)?;
     for _ in 0..16 {
         last.push_str("l0,l1,meet,l2\n")?;
     }
     last.push_str("l0,x,meet,l2\n")?;
-    assert_eq!(rt; ask(heap, last.as_bytes())?, Err((5, 50, 0)));
+    assert_eq!(rt;
+        ask(heap, last.as_bytes())?,
+        Err((Refusal::Overfull, 50, 0))
+    );
     // a wrong field comes before that
     let mut wrong = of_rules(heap, 48)?;
     wrong.push_str("a,a,near,a\n")?;
-    assert_eq!(rt; ask(heap, wrong.as_bytes())?, Err((4, 50, 3)));
+    assert_eq!(rt;
+        ask(heap, wrong.as_bytes())?,
+        Err((Refusal::Unrelated, 50, 3))
+    );
     Ok(())
 }
 
@@ -74,11 +86,11 @@ fn bytes(rt: HostRuntime) -> Result<(), Fail> {
     // a long line is ragged; a long file is overfull before anything else
     assert_eq!(rt;
         ask(heap, of_bytes(heap, 32768)?.as_bytes())?,
-        Err((2, 3, 0))
+        Err((Refusal::Ragged, 3, 0))
     );
     assert_eq!(rt;
         ask(heap, of_bytes(heap, 32769)?.as_bytes())?,
-        Err((5, 0, 0))
+        Err((Refusal::Overfull, 0, 0))
     );
     Ok(())
 }
@@ -138,7 +150,10 @@ fn orders(rt: HostRuntime) -> Result<(), Fail> {
                             right = right.saturating_add(1);
                         }
                         Err(_) => {
-                            assert_eq!(rt; ask(heap, text.as_bytes())?, Err((1, 1, 0)));
+                            assert_eq!(rt;
+                                ask(heap, text.as_bytes())?,
+                                Err((Refusal::Headless, 1, 0))
+                            );
                             wrong = wrong.saturating_add(1);
                         }
                     }

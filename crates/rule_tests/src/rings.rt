@@ -1,9 +1,9 @@
 // Rings and groups, by files and by names.
 use crate::asking::ask;
 use files::read_rules;
-use rules::{Draft, Relation, RuleWords};
+use rules::{Draft, Group, Relation, RuleWords};
 use std::test::Fail;
-use terms::{LabelNo, RuleNo};
+use terms::{LabelNo, Refusal, RuleNo};
 
 #[test]
 fn exclusive_rules_in_rings(rt: HostRuntime) -> Result<(), Fail> {
@@ -11,11 +11,11 @@ fn exclusive_rules_in_rings(rt: HostRuntime) -> Result<(), Fail> {
     // a rule that reads its own label is a ring
     assert_eq!(rt;
         ask(heap, b"label,first,how,second\na,a,after,b\n")?,
-        Err((6, 2, 0))
+        Err((Refusal::Ringed, 2, 0))
     );
     assert_eq!(rt;
         ask(heap, b"label,first,how,second\na,b,contain,a\n")?,
-        Err((6, 2, 0))
+        Err((Refusal::Ringed, 2, 0))
     );
     assert_eq!(rt;
         ask(heap, b"label,first,how,second\na,a,meet,b\n")?,
@@ -26,7 +26,7 @@ fn exclusive_rules_in_rings(rt: HostRuntime) -> Result<(), Fail> {
             heap,
             b"label,first,how,second\nc,a,meet,b\na,c,meet,b\nb,d,follow,c\n",
         )?,
-        Err((6, 4, 0))
+        Err((Refusal::Ringed, 4, 0))
     );
     // the lowest of two
     assert_eq!(rt;
@@ -34,7 +34,7 @@ fn exclusive_rules_in_rings(rt: HostRuntime) -> Result<(), Fail> {
             heap,
             b"label,first,how,second\nx,y,meet,y\na,a,follow,b\nc,c,after,c\n",
         )?,
-        Err((6, 3, 0))
+        Err((Refusal::Ringed, 3, 0))
     );
     // an exclusive rule beside a ring is none in it
     assert_eq!(rt;
@@ -52,12 +52,13 @@ fn groups_of_a_ring(rt: HostRuntime) -> Result<(), Fail> {
     ) else {
         return Err(Fail::new("refused"));
     };
-    let groups = table.groups();
-    assert!(rt; groups.len() == 1);
-    assert!(rt; groups[0].start == 0 && groups[0].end == 2 && groups[0].ringed);
-    let order = table.order();
-    assert!(rt; order.len() == 2);
-    assert!(rt; order[0].0 == 1 && order[1].0 == 2);
+    let ring = Group {
+        start: 0,
+        end: 2,
+        ringed: true,
+    };
+    assert!(rt; table.groups() == [ring].as_slice());
+    assert!(rt; table.order() == [RuleNo(1), RuleNo(2)].as_slice());
     Ok(())
 }
 
@@ -82,9 +83,7 @@ fn a_table_by_names(rt: HostRuntime) -> Result<(), Fail> {
     };
     assert!(rt; table.rule_count() == 2 && table.label_count() == 4 && table.group_count() == 2);
     // the rule that makes `hut` comes before the one that reads it
-    let order = table.order();
-    assert!(rt; order.len() == 2);
-    assert!(rt; order[0].0 == 2 && order[1].0 == 1);
+    assert!(rt; table.order() == [RuleNo(2), RuleNo(1)].as_slice());
     assert_eq!(rt; table.label_name(LabelNo(2)), Some("lifted"));
     assert_eq!(rt; table.label_name(LabelNo(4)), None);
     assert!(rt; table.label_no(b"boxed").is_some() && table.label_no(b"box").is_none());

@@ -1,6 +1,5 @@
 -- Names and rules that are added to a draft.
-use Rattle.std.proofs.Common.{◌≡◌, ℕ, ◌+◌, ◌<◌, List, [], ◌∷◌, ◌++◌, length, Ok, Err, string_bytes, String, sym, refl, ap, ◌∙◌, subst, arith, length-append}
-use Rattle.std.specs.declared.alloc.AllocError.{AllocError}
+use Rattle.std.proofs.Common.{◌≡◌, ℕ, ◌+◌, ◌<◌, List, [], ◌∷◌, ◌++◌, length, Ok, string_bytes, String, sym, ap, ◌∙◌, subst, arith, length-append}
 use Rattle.std.specs.declared.alloc.Global.{Global}
 use Rattle.std.proofs.lemmas.List.{map-append, append-nil, length-map}
 use Rattle.rules.specs.declared.rule.Rule.{Rule}
@@ -29,13 +28,6 @@ entered_new names s after t e a new =
     (more ∙ sym (enter_new (texts names) t new), omega arith, omega arith, (s ∷ [], a))
 
 -- ---- a rule is written
-
--- A name was not entered, or there was no memory for the rule: the old names are in front.
-pub wrote_stop : (names mid after : List (String Global)) (rules : List Rule) (w : Written) (f : AllocError) → Extends names mid → after ≡ mid → Wrote names rules w after rules (Err f)
-wrote_stop names mid after rules w f p e = (refl, subst (λ l. Extends names l) (sym e) p)
-
-pub unchanged : {A : Type 0} (xs : List A) → Extends xs xs
-unchanged xs = ([], sym (append-nil xs))
 
 -- A name's number stays when more names come.
 stays : (old names after : List (String Global)) (t : List ℕ) (a : LabelNo) → Entered old t names (Ok a) → Extends names after → a ≡ label_number (texts after) t

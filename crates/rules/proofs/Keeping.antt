@@ -1,7 +1,7 @@
 -- What a draft keeps while rules are added: its names are those of its rules, in the order of first appearance.
 use Rattle.std.proofs.Common.{◌≡◌, ℕ, zero, suc, ◌<◌, ◌≤◌, true, ltb, List, [], ◌∷◌, ◌++◌, length, Some, None, Option, sym, refl, ap, ◌∙◌, subst, inl, inr, arith, length-append}
 use Rattle.std.proofs.lemmas.List.{map-append, length-map, get_or_append_left, get_or_push}
-use Rattle.std.proofs.lemmas.Bool.{and_parts, and_from, and_left, and_right, ltb-true, lt-ltb, le-ltb, le-leb, lt-leb, leb-true, cond-true, cond-false, cases_Bool, cases_lt}
+use Rattle.std.proofs.lemmas.Bool.{and_parts, and_from, and_right, ltb-true, lt-ltb, le-leb, lt-leb, leb-true, cond-true, cond-false, cases_Bool, cases_lt}
 use Rattle.terms.specs.declared.refusal.Refusal.{Refusal}
 use Rattle.terms.specs.declared.refusal.Refusal.TheVariants.{Misspelt, Overfull}
 use Rattle.rules.specs.declared.rule.Rule.{Rule}
@@ -130,11 +130,6 @@ pub refuses_labels : (names : List (List ℕ)) (rules : List Rule) (w : Written)
 refuses_labels names rules w k s m =
     let e = ap length (names_with names rules w k) in
     cond-true (spelt w) _ _ s ∙ cond-false (room_for (spell_rules names rules) w) _ _ (and_right _ _ (lt-leb (length (names_of (spell_rules names rules ++ (w ∷ [])))) 32 (omega arith)))
-
-pub refuses_rules : (names : List (List ℕ)) (rules : List Rule) (w : Written) → spelt w ≡ true → 48 ≤ length rules → add_refusal (spell_rules names rules) w ≡ Some Overfull
-refuses_rules names rules w s m =
-    let n = length-map rules (spell_rule names) in
-    cond-true (spelt w) _ _ s ∙ cond-false (room_for (spell_rules names rules) w) _ _ (and_left _ _ (le-ltb (length (spell_rules names rules)) 48 (omega arith)))
 
 -- What is not refused is within the limits.
 pub accepted_parts : (names : List (List ℕ)) (rules : List Rule) (w : Written) → Kept names rules → add_refusal (spell_rules names rules) w ≡ None → (spelt w ≡ true) × (length rules < 48) × (length (enter_rule names w) ≤ 32)

@@ -1,5 +1,5 @@
 -- The numbers that names get, and rules by number and by name.
-use Rattle.std.proofs.Common.{◌≡◌, ℕ, zero, suc, ◌+◌, ◌<◌, ◌≤◌, Bool, true, false, cond, eqb, not, ◌||◌, List, [], ◌∷◌, ◌++◌, length, string_bytes, String, sym, refl, ap, ◌∙◌, inl, inr, append_assoc, add-zero, arith, length-append}
+use Rattle.std.proofs.Common.{◌≡◌, ℕ, ◌+◌, ◌<◌, ◌≤◌, Bool, true, false, cond, eqb, not, ◌||◌, List, [], ◌∷◌, ◌++◌, length, string_bytes, String, sym, refl, ap, ◌∙◌, inl, inr, append_assoc, add-zero, arith, length-append}
 use Rattle.std.proofs.lemmas.List.Folds.{position_or_len_push, prefix_len-append}
 use Rattle.std.proofs.lemmas.List.Sums.{passes_at_first, prefix_len-le-length}
 use Rattle.std.proofs.lemmas.List.{map-append, append-nil}
@@ -122,7 +122,3 @@ brings_three names a b c =
     known_enter (enter names a) b c ∙ (ap (λ (t : Bool). bytes_eq b c || t) (known_enter names a c) ∙ or-or (bytes_eq b c) (bytes_eq a c) (known names c)) in
     let z = enter-length (enter (enter names a) b) c ∙ ap (λ (t : Bool). length (enter (enter names a) b) + cond t 0 1) k in
     omega arith
-
-pub one_at_most : (t : Bool) → cond {A = ℕ} t 0 1 ≤ 1
-one_at_most true = omega arith
-one_at_most false = omega arith

@@ -1,17 +1,13 @@
 -- The texts of strings, and the names among them.
-use Rattle.std.proofs.Common.{◌≡◌, ℕ, ◌+◌, ◌<◌, cond, ltb, not, List, [], ◌∷◌, length, get_or, string_bytes, Option, String, sym, refl, ap, ◌∙◌, inl, inr, arith, MatchOption}
+use Rattle.std.proofs.Common.{◌≡◌, ℕ, ◌+◌, ◌<◌, cond, ltb, not, List, [], ◌∷◌, length, string_bytes, Option, String, sym, refl, inl, inr, arith, MatchOption}
 use Rattle.std.specs.List.{position, position_or_len}
 use Rattle.std.specs.Str.{bytes_eq}
 use Rattle.std.proofs.lemmas.Bool.{ltb-true, ltb-false, cases_Bool}
-use Rattle.std.proofs.lemmas.List.{get_or-map, length-map}
+use Rattle.std.proofs.lemmas.List.{length-map}
 use Rattle.std.specs.declared.alloc.Global.{Global}
 use Rattle.rules.specs.Texts.{texts}
-use Rattle.rules.specs.Written.{index_of, name_at}
+use Rattle.rules.specs.Written.{index_of}
 use Rattle.rules.proofs.Numbering.{index_le}
-
--- The text of the string at an index.
-pub name_at-texts : (strings : List (String Global)) (i : ℕ) (s : String Global) → i < length strings → s ≡ get_or strings i s → name_at (texts strings) i ≡ string_bytes s
-name_at-texts strings i s l e = get_or-map string_bytes strings i s [] l ∙ ap string_bytes (sym e)
 
 index_of-texts : (names : List (String Global)) (t : List ℕ) → position_or_len (λ n. bytes_eq (string_bytes n) t) names ≡ index_of (texts names) t
 index_of-texts [] t = refl

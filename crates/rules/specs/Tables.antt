@@ -11,7 +11,7 @@ use Rattle.rules.specs.Drafts.{listed}
 use Rattle.rules.specs.Labels.{is_label}
 use Rattle.rules.specs.Texts.{texts}
 use Rattle.rules.specs.Words.{rule_by_index, Free, LowestBarred, WorkingOrder, Grouping}
-use Rattle.rules.specs.Written.{Written, names_of, rules_of, spell_rules, name_at}
+use Rattle.rules.specs.Written.{Written, names_of, rules_of, name_at}
 
 -- Its labels' names and its rules, each by number; its working order and its groups.
 abbrev pub names_in : Table → List (List ℕ)

@@ -101,7 +101,8 @@ fn is_spelt(rule: RuleWords<'_>) -> bool
         && is_label(rule.second.as_bytes())
 }
 
-// How many names a rule brings: its names that are not there, each counted once.
+// How many names a rule brings: its names that are not there, each counted once. (Names go alone from here on, since while a rule is written names
+// and rules are no list of rules yet.)
 fn new_names(names: &[String], rule: RuleWords<'_>) -> usize
     ensures brings { length (enter_rule (texts names.now) (said_by rule.entry)) ≡ length (texts names.now) + result }
     ensures few { result ≤ 3 }

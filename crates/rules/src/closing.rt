@@ -13,7 +13,7 @@ impl Draft {
     pub fn close(self) -> Result<Table, CloseFault>
         ensures { Closes (drafted self) result }
     {
-        let reach = Reach::of(&self.list.rules);
+        let reach = Reach::of(&self.list);
         if let Some(no) = reach.ringed_exclusive() {
             return Err(CloseFault::Ringed(no));
         }

@@ -9,7 +9,7 @@ pub struct Draft {
     pub(crate) list: RuleList,
 }
 
-// Why a rule was not added.
+// Why a rule was not added. (Each error enum has want of memory as one more case, under its own name; so has `CloseFault`.)
 #[derive(Clone, Copy, PartialEq, Eq, Debug)]
 pub enum AddFault {
     Refused(Refusal),

@@ -11,7 +11,8 @@ pub(crate) fn find_name(names: &[String], text: &[u8]) -> Option<usize>
     first_like(names, text)
 }
 
-// The index of the first string with these bytes, if one has them.
+// The index of the first string with these bytes, if one has them. (It stands apart, since the check knows what a chain gives only where the
+// chain is all that is returned.)
 fn first_like(strings: &[String], bytes: &[u8]) -> Option<usize>
     ensures { result ≡ position (λ s. bytes_eq (string_bytes s) bytes.now) strings.now }
 {

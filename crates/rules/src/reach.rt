@@ -5,6 +5,7 @@ ghost use Rattle.rules.specs.RuleSets.{holds, marked};
 ghost use Rattle.rules.specs.Words.{Reads, ReadBy, read_by};
 
 use crate::rule::{MOST_RULES, Rule};
+use crate::rule_list::RuleList;
 use crate::rule_set::RuleSet;
 use std::array;
 use terms::LabelNo;
@@ -21,14 +22,15 @@ pub(crate) struct Reach<'a> {
 }
 
 impl<'a> Reach<'a> {
-    // Of the rules of a table.
-    pub(crate) fn of(rules: &'a [Rule]) -> Reach<'a>
-        requires { length rules.now ≤ 48 }
-        ensures { result.rules.now ≡ rules.now }
+    // Of the rules of a list.
+    pub(crate) fn of(list: &'a RuleList) -> Reach<'a>
+        ensures { result.rules.now ≡ list.now.rules.items }
     {
-        let mut rows = first_steps(rules);
+        let rules = list.rules.as_slice();
+        let mut rows = first_steps(list);
+        // A `for` over the rules and no `fold`, whose closure would have to say again what `through` asks and gives.
         for k in 0..rules.len() {
-            // named first, since the proof rules lay no call's result over an array in use
+            // (named first: the check does not take a call's result straight over the array that was passed to it)
             let wider = through(rows, k);
             rows = wider;
         }
@@ -51,21 +53,19 @@ impl<'a> Reach<'a> {
 }
 
 // For each rule the rules that read its label.
-fn first_steps(rules: &[Rule]) -> [RuleSet; MOST_RULES]
-    requires { length rules.now ≤ 48 }
-    ensures { (i j : ℕ) → marked result i j ≡ read_by rules.now i j }
+fn first_steps(list: &RuleList) -> [RuleSet; MOST_RULES]
+    ensures { (i j : ℕ) → marked result i j ≡ read_by list.now.rules.items i j }
 {
-    array::from_fn(|i| readers(rules, i))
+    array::from_fn(|i| readers(list, i))
 }
 
 // The rules that read the label of the rule `i`, if there is such a rule.
-fn readers(rules: &[Rule], i: usize) -> RuleSet
-    requires { length rules.now ≤ 48 }
-    ensures { (j : ℕ) → Decides (holds result j) (ReadBy rules.now i j) }
+fn readers(list: &RuleList, i: usize) -> RuleSet
+    ensures { (j : ℕ) → Decides (holds result j) (ReadBy list.now.rules.items i j) }
 {
     let mut set = RuleSet::none();
-    if let Some(rule) = rules.get(i) {
-        for (j, other) in rules.iter().enumerate() {
+    if let Some(rule) = list.rules.get(i) {
+        for (j, other) in list.rules.iter().enumerate() {
             if reads(other, rule.label) {
                 set = set.with(j);
             }

@@ -1,3 +1,5 @@
+// Three structs and no generic one, as the project wants it: each counts something else, and no call takes one for another.
+
 // The number of a label in a rule table, from 0 in the order of first appearance.
 #[derive(Clone, Copy, PartialEq, Eq, PartialOrd, Ord, Debug)]
 pub struct LabelNo(pub u8);

@@ -52,7 +52,7 @@ pub enum Refusal {
 }
 
 impl Refusal {
-    // The number that formats and programs use. No two refusals share one.
+    // The number that formats and programs use. No two refusals share one. (A method: `u8::from` would not say at the call which number it is.)
     pub fn number(self) -> u8
         ensures value { result ≡ number_of self }
         ensures distinct { (other : Refusal) → number_of other ≡ result → other ≡ self }

@@ -19,7 +19,7 @@ pub trait Worded: Copy + 'static {
 
     ghost complete: { (x : Self) → Memᴰ x every };
 
-    // The one whose word it is, if one has it.
+    // The one whose word it is, if one has it. (No `TryFrom`: Rust has no such `impl` for every kind of a trait, and its error would say nothing.)
     final fn from_word(word: &[u8]) -> Option<Self>
         ensures value { result ≡ first_with spelling every word.now }
         ensures named { MatchOption result ((x : Self) → spelling x ≢ word.now) (λ x. spelling x ≡ word.now) }

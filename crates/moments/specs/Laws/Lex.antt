@@ -1,11 +1,7 @@
 -- An order by one thing first, then by the rest, keeps the laws of an order.
-use Rattle.std.specs.Prelude.{◌≡◌, ℕ, Bool, true, false, ◌⊎◌, nat_lt, ◌==◌, refl}
+use Rattle.std.specs.Prelude.{◌≡◌, Bool, true, false, ◌⊎◌, nat_lt, refl}
 use Rattle.std.proofs.Common.{sym, subst, ◌∙◌, inl, inr, arith}
 use Rattle.std.proofs.lemmas.Bool.{cases_Bool, both_ways, lt-ltb, le-ltb, ltb-true, ltb-false}
-use Rattle.std.specs.Cmp.{IsTotalOrder}
-use Rattle.std.specs.Ordering.{is_lt, nat_cmp, on, then_cmp}
-use Rattle.std.specs.declared.cmp.Ordering.{Ordering}
-use Rattle.std.specs.declared.cmp.Ordering.TheVariants.{Less, Equal, Greater}
 use Rattle.moments.specs.Order.{StrictTotalOrder, first_by}
 
 module _ {A : Type 0} (before : A → A → Bool) (laws : StrictTotalOrder before) where
@@ -68,19 +64,3 @@ module _ {X A : Type 0} (before : A → A → Bool) (laws : StrictTotalOrder bef
       | inr g ↦ let e = laws.connected (part x) (part y) f g in (e, sym (first_same x y e) ∙ h, sym (first_same y x (sym e)) ∙ k)
     ]
   ]
-
-pub nat_agrees : (x y : ℕ) → nat_lt x y ≡ is_lt (nat_cmp x y)
-nat_agrees x y = elim (cases_Bool (nat_lt x y)) [
-  | inl t ↦ rw t refl
-  | inr f ↦ rw f (elim (cases_Bool (x == y)) [ inl e ↦ rw e refl | inr n ↦ rw n refl ])
-]
-
--- the order of std's comparisons: the `Less` of comparing the one thing first, then the rest
-module _ {X A : Type 0} (before : A → A → Bool) (cmp : A → A → Ordering) (order : IsTotalOrder cmp) (agrees : (x y : A) → before x y ≡ is_lt (cmp x y)) (part : X → A) (rest : X → X → Bool) (rest_cmp : X → X → Ordering) (rest_agrees : (x y : X) → rest x y ≡ is_lt (rest_cmp x y)) where
-  by_answer : (x y : X) (r : Ordering) → cmp (part x) (part y) ≡ r → first_by before part rest x y ≡ is_lt (then_cmp (on part cmp) rest_cmp x y)
-  by_answer x y Less e = rw (agrees (part x) (part y), e) refl
-  by_answer x y Equal e = rw (agrees (part x) (part y), agrees (part y) (part x), order.antisymm (part y) (part x), e) (rest_agrees x y)
-  by_answer x y Greater e = rw (agrees (part x) (part y), agrees (part y) (part x), order.antisymm (part y) (part x), e) refl
-
-  pub first_agrees : (x y : X) → first_by before part rest x y ≡ is_lt (then_cmp (on part cmp) rest_cmp x y)
-  first_agrees x y = by_answer x y (cmp (part x) (part y)) refl

@@ -15,17 +15,17 @@ drafted_rules : (d : Draft) → vec_items d.list.rules ≡ rules_of (drafted d)
 drafted_rules d = sym (kept_rules (texts (vec_items d.list.names)) (vec_items d.list.rules) (list_kept d.list))
 
 pub returns-in-Some : goal.returns-in-Some
-returns-in-Some c = subst (λ (rs : List Rule). LowestBarred rs c.in-Some.no) (c.of-reach.ensures ∙ c.deref.ensures.value ∙ drafted_rules c.args.self) c.in-Some.ensures
+returns-in-Some c = subst (λ (rs : List Rule). LowestBarred rs c.in-Some.no) (c.of-reach.ensures ∙ drafted_rules c.args.self) c.in-Some.ensures
 
 pub returns-in_err-order : goal.returns-in_err-order
 returns-in_err-order c =
     let p = err_from_is_err_and c.from_residual.result c.from_residual.ensures.1 in
-    rw (p.1, p.2) (subst (λ (rs : List Rule). Free rs) (c.of-reach.ensures ∙ c.deref.ensures.value ∙ drafted_rules c.args.self) c.in_default.ensures)
+    rw (p.1, p.2) (subst (λ (rs : List Rule). Free rs) (c.of-reach.ensures ∙ drafted_rules c.args.self) c.in_default.ensures)
 
 pub returns-in_err-groups : goal.returns-in_err-groups
 returns-in_err-groups c =
     let p = err_from_is_err_and c.from_residual-in_err-groups.result c.from_residual-in_err-groups.ensures.1 in
-    rw (p.1, p.2) (subst (λ (rs : List Rule). Free rs) (c.of-reach.ensures ∙ c.deref.ensures.value ∙ drafted_rules c.args.self) c.in_default.ensures)
+    rw (p.1, p.2) (subst (λ (rs : List Rule). Free rs) (c.of-reach.ensures ∙ drafted_rules c.args.self) c.in_default.ensures)
 
 pub returns : goal.returns
-returns c = (refl, subst (λ (rs : List Rule). Free rs) (c.of-reach.ensures ∙ c.deref.ensures.value ∙ drafted_rules c.args.self) c.in_default.ensures)
+returns c = (refl, subst (λ (rs : List Rule). Free rs) (c.of-reach.ensures ∙ drafted_rules c.args.self) c.in_default.ensures)

@@ -6,5 +6,6 @@ use Rattle.rules.proofs.reach.Reach.of.Goals as goal
 pub invariant_of-result : goal.invariant_of-result
 unfolding leads_to
 invariant_of-result c =
-    let n : c.loop-k.k ≡ length c.args.rules.now = omega arith in
-    record { few = c.requires; tells = λ i j. c.loop-k.invariant i j ∙ ap (λ (k : ℕ). via (read_by c.args.rules.now) k i j) n }
+    let rs = c.args.list.now.rules.items in
+    let n : c.loop-k.k ≡ length rs = let e = ap length c.as_slice-rules.ensures.value in omega arith in
+    rw c.as_slice-rules.ensures.value (record { few = c.args.list.now.few; tells = λ i j. c.loop-k.invariant i j ∙ ap (λ (k : ℕ). via (read_by rs) k i j) n })

@@ -5,4 +5,4 @@ use Rattle.rules.specs.Reach.{via}
 use Rattle.rules.proofs.reach.Reach.of.Given as goal
 
 abbrev pub invariant-loop-k : goal.invariant-loop-k
-invariant-loop-k l = (i j : ℕ) → marked l.rows i j ≡ via (read_by l.rules) l.k i j
+invariant-loop-k l = (i j : ℕ) → marked l.rows i j ≡ via (read_by l.list.rules.items) l.k i j
