@@ -6,18 +6,18 @@ use Rattle.terms.specs.declared.refusal.Refusal.TheVariants.{Full}
 use Rattle.moments.specs.declared.row.Row.{Row}
 use Rattle.moments.specs.Order.{Ascending, among, with}
 
--- A row of A; what the bounds on A bring stands after it.
-module _ {A : Type 0} {ordered ord eq partial : _} where
+-- A row of A; what the bound on A brings stands after it.
+module _ {A : Type 0} {ordered : _} where
   -- how many slots it has
-  abbrev pub slots_of : Row A ordered ord eq partial → ℕ
+  abbrev pub slots_of : Row A ordered → ℕ
   slots_of r = length r.slots.now
 
   -- how many it keeps
-  abbrev pub count : Row A ordered ord eq partial → ℕ
+  abbrev pub count : Row A ordered → ℕ
   count r = r.len
 
   -- what stands in the first slots, up to the count
-  abbrev pub kept : Row A ordered ord eq partial → List A
+  abbrev pub kept : Row A ordered → List A
   kept r = take (count r) r.slots.now
 
 -- whether it was new; a new one needs a slot

@@ -4,8 +4,9 @@ ghost use Rattle.std.proofs.Common.{rules};
 ghost use Rattle.moments.specs.Laws.DayTexts.{day_apart};
 
 use crate::digits::number;
-use crate::moment::Moment;
-use crate::ordered::Ordered;
+use crate::moment::{Moment, Printed};
+use crate::ordered::{Compared, Ordered};
+use std::alloc::{AllocError, Global};
 use std::fmt;
 
 // A day by its number, in range from 0 to LAST. A day out of range has an order and a text too.
@@ -22,6 +23,12 @@ impl Ordered for Day {
 
     ghost total = { Prim.search rules };
 
+    fn precedes(&self, other: &Day) -> bool {
+        self < other
+    }
+}
+
+impl Compared for Day {
     ghost agrees = { Prim.search rules };
 }
 
@@ -38,8 +45,6 @@ impl Moment for Day {
 
     ghost written = { day_written };
 
-    ghost shown = { λ _. refl };
-
     ghost apart = { day_apart };
 
     fn in_range(&self) -> bool {
@@ -54,4 +59,12 @@ impl Moment for Day {
             _ => Some(Day(number(field)?)),
         }
     }
+
+    fn to_text(&self, heap: Global) -> Result<String, AllocError> {
+        self.to_string(heap)
+    }
+}
+
+impl Printed for Day {
+    ghost shown = { λ _. refl };
 }

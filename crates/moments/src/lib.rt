@@ -10,7 +10,7 @@ mod row;
 mod sheet_stamp;
 
 pub use day::Day;
-pub use moment::Moment;
-pub use ordered::Ordered;
+pub use moment::{Moment, Printed};
+pub use ordered::{Compared, Ordered};
 pub use row::Row;
 pub use sheet_stamp::SheetStamp;

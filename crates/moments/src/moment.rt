@@ -6,7 +6,7 @@ use std::alloc::{AllocError, Global};
 use std::fmt::Display;
 
 // A kind of moment: its order, which of its values are in range, and their text.
-pub trait Moment: Ordered + Display {
+pub trait Moment: Ordered {
     // whether a moment is in range
     ghost ranged: { Self → Bool };
 
@@ -23,14 +23,13 @@ pub trait Moment: Ordered + Display {
 
     // The moment's text, which reads back as the same moment if it is in range.
     fn to_text(&self, heap: Global) -> Result<String, AllocError>
-        ensures { IfOk result (λ t. string_bytes t ≡ written self.now) }
-    {
-        self.to_string(heap)
-    }
-
-    // `{}` prints that text
-    ghost shown: { (x : Self) → Self.output x ≡ Some (written x) };
+        ensures { IfOk result (λ t. string_bytes t ≡ written self.now) };
 
     // two moments in range with one text are the same
     ghost apart: { (x y : Self) → ranged x ≡ true → ranged y ≡ true → written x ≡ written y → x ≡ y };
+}
+
+// A kind of moment whose text `{}` prints.
+pub trait Printed: Moment + Display {
+    ghost shown: { (x : Self) → Self.output x ≡ Some (Self.written x) };
 }

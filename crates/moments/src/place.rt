@@ -1,7 +1,7 @@
 ghost use Rattle.std.specs.Prelude.{nat_lt};
 ghost use Rattle.std.proofs.Common.{rules};
 
-use crate::ordered::Ordered;
+use crate::ordered::{Compared, Ordered};
 use terms::Place;
 
 impl Ordered for Place {
@@ -9,5 +9,11 @@ impl Ordered for Place {
 
     ghost total = { Prim.search rules };
 
+    fn precedes(&self, other: &Place) -> bool {
+        self < other
+    }
+}
+
+impl Compared for Place {
     ghost agrees = { Prim.search rules };
 }

@@ -1,6 +1,6 @@
 ghost use Rattle.std.specs.Prelude.{◌≡◌, ◌+◌, ◌<◌, ◌≤◌, [], length, take, Ok, Err};
 ghost use Rattle.std.specs.List.{slice_get, insert};
-ghost use Rattle.moments.specs.Order.{Ascending, found};
+ghost use Rattle.moments.specs.Order.{Ascending, found, rank};
 
 use crate::ordered::Ordered;
 use terms::Refusal;
@@ -63,12 +63,26 @@ impl<'a, T: Ordered> Row<'a, T> {
         self.kept().get(i).copied()
     }
 
+    // How many of the kept come before `x`.
+    fn rank(&self, x: T) -> usize
+        ensures within { result ≤ count self.now }
+        ensures place { result ≡ rank T.before x (kept self.now) }
+    {
+        self.kept().partition_point(|y| y.precedes(&x))
+    }
+
     // The index of `x` if it is kept, else the index where it belongs.
     pub fn find(&self, x: T) -> Result<usize, usize>
         ensures within { elim result [ Ok i ↦ i < count self.now | Err i ↦ i ≤ count self.now ] }
         ensures place { result ≡ found T.before x (kept self.now) }
     {
-        self.kept().binary_search(&x)
+        let at = self.rank(x);
+        if let Some(y) = self.kept().get(at)
+            && !x.precedes(y)
+        {
+            return Ok(at);
+        }
+        Err(at)
     }
 
     // Writes `x` into the first open slot, and turns it from there into the slot where it belongs.

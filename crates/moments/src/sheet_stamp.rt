@@ -5,8 +5,9 @@ ghost use Rattle.moments.specs.SheetStamps.{stamp_before, stamp_ranged, stamp_wr
 ghost use Rattle.moments.specs.Laws.Stamps.{stamp_laws, stamp_apart};
 
 use crate::digits::number;
-use crate::moment::Moment;
-use crate::ordered::Ordered;
+use crate::moment::{Moment, Printed};
+use crate::ordered::{Compared, Ordered};
+use std::alloc::{AllocError, Global};
 use std::fmt;
 
 // A stamp on a sheet: the season, the sheet in it and the line on the sheet. A stamp out of range has an order and a text too.
@@ -62,6 +63,12 @@ impl Ordered for SheetStamp {
 
     ghost total = { stamp_laws };
 
+    fn precedes(&self, other: &SheetStamp) -> bool {
+        self < other
+    }
+}
+
+impl Compared for SheetStamp {
     ghost agrees = { Prim.search rules };
 }
 
@@ -78,8 +85,6 @@ impl Moment for SheetStamp {
 
     ghost written = { stamp_written };
 
-    ghost shown = { λ _. refl };
-
     ghost apart = { stamp_apart };
 
     fn in_range(&self) -> bool {
@@ -91,4 +96,12 @@ impl Moment for SheetStamp {
     fn read(field: &[u8]) -> Option<SheetStamp> {
         parts(field).filter(|stamp| stamp.in_range())
     }
+
+    fn to_text(&self, heap: Global) -> Result<String, AllocError> {
+        self.to_string(heap)
+    }
+}
+
+impl Printed for SheetStamp {
+    ghost shown = { λ _. refl };
 }

@@ -17,6 +17,9 @@ pub trait Pool {
     // the three numbers
     ghost sized: { Self → Size };
 
+    // the members ascend, are no more than the capacity, and are in bounds
+    ghost sound: { (s : Self) → Sound (sized s) (members s) };
+
     // The three numbers.
     fn size(&self) -> Size
         ensures { result ≡ sized self.now };
@@ -47,7 +50,4 @@ pub trait Pool {
     // The least member that is later than a period, which need be no member, nor in bounds.
     fn next(&self, after: Period<Place>) -> Option<Period<Place>>
         ensures { result ≡ least_after after (members self.now) };
-
-    // the members ascend, are no more than the capacity, and are in bounds
-    ghost sound: { (s : Self) → Sound (sized s) (members s) };
 }

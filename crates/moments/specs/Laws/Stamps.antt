@@ -6,12 +6,14 @@ use Rattle.std.specs.Cmp.Lexicographic.{other_text, pointwise, same_text}
 use Rattle.std.specs.Int.{is_in_range}
 use Rattle.std.specs.List.{IsSplitAt}
 use Rattle.std.specs.Str.{all_ascii_digits}
-use Rattle.std.proofs.lemmas.List.{drop_at, take-append-drop, take_at}
+use Rattle.std.proofs.lemmas.List.{drop_at, drop-drop, length-take, take_all, take-append-drop, take_at}
 use Rattle.std.proofs.lemmas.Bool.{and_parts, both_ways, leb-true}
 use Rattle.std.proofs.lemmas.Str.Parse.{digits_value_short}
 use Rattle.moments.specs.Digits.{padded}
 use Rattle.moments.specs.Order.{StrictTotalOrder, first_by}
 use Rattle.moments.specs.SheetStamps.{first_season, last_season, first_sheet, last_sheet, first_line, last_line, season_digits, sheet_digits, line_digits, stamp_before, stamp_ranged, stamp_written, Parted}
+use Rattle.moments.specs.Moments.{ReadAs}
+use Rattle.moments.specs.Laws.Readings.{read_none}
 use Rattle.moments.specs.declared.sheet_stamp.SheetStamp.{SheetStamp}
 use Rattle.moments.specs.Laws.Lex.{nat_lt_laws, first_irreflexive, first_transitive, first_connected}
 use Rattle.moments.specs.Laws.Numerals.{own, digits_padded, length-padded, padded_apart, padded_value, value_padded}
@@ -119,6 +121,15 @@ no_end f line e n = refused f (λ s r c. n (ap length (e ∙ c.third) ∙ c.last
 no_part : (width n : ℕ) (ds : List ℕ) → n < 2 ^ 64 → all_ascii_digits ds ≡ false → ds ≢ padded width n
 no_part width n ds h f e = both_ways (all_ascii_digits ds) f (ap all_ascii_digits e ∙ digits_padded width n h)
 
+pub no_season : (f : List ℕ) → all_ascii_digits (take season_digits f) ≡ false → Parted f None
+no_season f n = refused f (λ s r c. let m = ranged_small s r in no_part season_digits s.season _ (omega arith) n c.first)
+
+pub no_sheet : (f : List ℕ) → all_ascii_digits (take sheet_digits (drop (season_digits + 1) f)) ≡ false → Parted f None
+no_sheet f n = refused f (λ s r c. let m = ranged_small s r in no_part sheet_digits s.sheet _ (omega arith) n (ap (take sheet_digits) (sym (drop-drop 1 season_digits f)) ∙ c.second))
+
+pub no_line : (f : List ℕ) → all_ascii_digits (take line_digits (drop (season_digits + 1 + sheet_digits + 1) f)) ≡ false → Parted f None
+no_line f n = refused f (λ s r c. let m = ranged_small s r in no_part line_digits s.line _ (omega arith) n (ap (take line_digits) (simp drop-drop at c.third) ∙ take_all line_digits _ (omega (arith, c.last))))
+
 -- a part's bytes are the text of its number
 part_written : (width n : ℕ) (ds : List ℕ) → length ds ≡ width → 0 < width → width ≤ 9 → (all_ascii_digits ds ≡ true) × (n ≡ digits_value 10 ds) → padded width n ≡ ds
 part_written width n ds l some few p =
@@ -129,8 +140,8 @@ part_back : (width m n : ℕ) (ds : List ℕ) → n < 2 ^ 64 → m ≡ digits_va
 part_back width m n ds h e q = e ∙ (ap (digits_value 10) q ∙ value_padded width n h)
 
 -- the most that a part of so many digits can be
-pub part_below : (width n : ℕ) (ds : List ℕ) → length ds ≡ width → (all_ascii_digits ds ≡ true) × (n ≡ digits_value 10 ds) → n < 10 ^ width
-part_below width n ds l p = subst (λ (k : ℕ). k < 10 ^ width) (sym p.1) (digits_value_short own ds width p.0 (omega arith))
+pub part_below : (width n : ℕ) (ds : List ℕ) → (all_ascii_digits (take width ds) ≡ true) × (n ≡ digits_value 10 (take width ds)) → n < 10 ^ width
+part_below width n ds p = subst (λ (k : ℕ). k < 10 ^ width) (sym p.1) (digits_value_short own (take width ds) width p.0 (simp length-take (omega arith)))
 
 -- what stripping a slash tells
 abbrev Stripped : List ℕ → List ℕ → Type 0
@@ -149,15 +160,6 @@ module _ (f season rest mid sheet tail line : List ℕ) (one : IsSplitAt f seaso
 
   cut : Cut season_digits sheet_digits line_digits f season sheet line
   cut = cut_apart season_digits sheet_digits line_digits f season sheet line whole one.3 three.3 long
-
-  pub no_season : all_ascii_digits season ≡ false → Parted f None
-  no_season n = refused f (λ s r c. let m = ranged_small s r in no_part season_digits s.season _ (omega arith) n (sym cut.first ∙ c.first))
-
-  pub no_sheet : all_ascii_digits sheet ≡ false → Parted f None
-  no_sheet n = refused f (λ s r c. let m = ranged_small s r in no_part sheet_digits s.sheet _ (omega arith) n (sym cut.second ∙ c.second))
-
-  pub no_line : all_ascii_digits line ≡ false → Parted f None
-  no_line n = refused f (λ s r c. let m = ranged_small s r in no_part line_digits s.line _ (omega arith) n (sym cut.third ∙ c.third))
 
   module _ (s : SheetStamp)
       (is_season : (all_ascii_digits season ≡ true) × (s.season ≡ digits_value 10 season))
@@ -181,3 +183,12 @@ module _ (f season rest mid sheet tail line : List ℕ) (one : IsSplitAt f seaso
 
     pub parted : Parted f (Some s)
     parted = record { accepted = together; back = λ m r w. ap Some (same m r w) }
+
+-- from the parts to the reading
+pub read_ranged : (f : List ℕ) (s : SheetStamp) → Parted f (Some s) → stamp_ranged s ≡ true → ReadAs stamp_ranged stamp_written f (Some s)
+read_ranged f s p r = record { accepted = (r, p.accepted); back = p.back }
+
+pub read_unranged : (f : List ℕ) (s : SheetStamp) → Parted f (Some s) → stamp_ranged s ≡ false → ReadAs stamp_ranged stamp_written f None
+read_unranged f s p n = read_none stamp_ranged stamp_written f (λ m r w.
+    let e : s ≡ m = (let q = p.back m r w in cc) in
+    both_ways (stamp_ranged s) n (ap stamp_ranged e ∙ r))

@@ -1,4 +1,5 @@
 use Rattle.std.proofs.Common.{ap, ◌∙◌, drop, arith}
+use Rattle.std.proofs.lemmas.List.{drop-drop, take_all}
 use Rattle.moments.specs.Laws.Stamps.{no_first_slash, no_second_slash, no_end, no_season, no_sheet, no_line, part_below, parted}
 use Rattle.moments.specs.SheetStamps.{season_digits, sheet_digits, line_digits}
 use Rattle.moments.proofs.sheet_stamp.parts.Goals as goal
@@ -18,26 +19,26 @@ returns-then-line-ne-LINE_DIGITS c =
 pub returns-in_err-number : goal.returns-in_err-number
 returns-in_err-number c =
     rw c.from_residual-in_err-number.ensures
-    (no_season c.args.field.now _ _ _ _ _ _ c.in_ok-season.ensures.cases c.in_ok-strip_prefix.ensures.cases c.in_ok-sheet.ensures.cases c.in_ok-line.ensures.cases c.if-line-ne-LINE_DIGITS.false c.in_err-number.ensures)
+    (no_season c.args.field.now (rw c.in_ok-season.ensures.cases.1 at c.in_err-number.ensures))
 
 pub returns-in_err-number-2 : goal.returns-in_err-number-2
 returns-in_err-number-2 c =
     rw c.from_residual-in_err-number-2.ensures
-    (no_sheet c.args.field.now _ _ _ _ _ _ c.in_ok-season.ensures.cases c.in_ok-strip_prefix.ensures.cases c.in_ok-sheet.ensures.cases c.in_ok-line.ensures.cases c.if-line-ne-LINE_DIGITS.false c.in_err-number-2.ensures)
+    (no_sheet c.args.field.now (grind (arith, drop-drop)))
 
 pub returns-in_err-number-3 : goal.returns-in_err-number-3
 returns-in_err-number-3 c =
     rw c.from_residual-in_err-number-3.ensures
-    (no_line c.args.field.now _ _ _ _ _ _ c.in_ok-season.ensures.cases c.in_ok-strip_prefix.ensures.cases c.in_ok-sheet.ensures.cases c.in_ok-line.ensures.cases c.if-line-ne-LINE_DIGITS.false c.in_err-number-3.ensures)
+    (no_line c.args.field.now (let e = take_all line_digits c.in_ok-line.line.now (omega (arith, c.if-line-ne-LINE_DIGITS.false)) in grind (arith, drop-drop)))
 
 pub overflow_cast-result : goal.overflow_cast-result
-overflow_cast-result c = let b = part_below season_digits c.in_ok-number.field-0 c.in_ok-season.season.now c.in_ok-season.ensures.cases.3 c.in_ok-number.ensures in omega arith
+overflow_cast-result c = let b = part_below season_digits c.in_ok-number.field-0 _ (rw c.in_ok-season.ensures.cases.1 at c.in_ok-number.ensures) in omega arith
 
 pub overflow_cast-result-2 : goal.overflow_cast-result-2
-overflow_cast-result-2 c = let b = part_below sheet_digits c.in_ok-number-2.field-0 c.in_ok-sheet.sheet.now c.in_ok-sheet.ensures.cases.3 c.in_ok-number-2.ensures in omega arith
+overflow_cast-result-2 c = let b = part_below sheet_digits c.in_ok-number-2.field-0 _ (rw c.in_ok-sheet.ensures.cases.1 at c.in_ok-number-2.ensures) in omega arith
 
 pub overflow_cast-result-3 : goal.overflow_cast-result-3
-overflow_cast-result-3 c = let b = part_below line_digits c.in_ok-number-3.field-0 c.in_ok-line.line.now c.if-line-ne-LINE_DIGITS.false c.in_ok-number-3.ensures in omega arith
+overflow_cast-result-3 c = let b = part_below line_digits c.in_ok-number-3.field-0 c.in_ok-line.line.now (rw (take_all line_digits c.in_ok-line.line.now (omega (arith, c.if-line-ne-LINE_DIGITS.false))) c.in_ok-number-3.ensures) in omega arith
 
 pub returns : goal.returns
 returns c =

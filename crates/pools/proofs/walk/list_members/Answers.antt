@@ -1,21 +1,24 @@
-use Rattle.std.proofs.Common.{IfOk, Result, sym, ◌∙◌, rules, tests, arith}
-use Rattle.std.proofs.lemmas.Result.{IfOk-weaker}
+use Rattle.std.proofs.Common.{◌≡◌, ℕ, ◌+◌, take, Some, vec_items, vec_len, sym, ap, ◌∙◌, arith}
+use Rattle.std.specs.List.{slice_get}
 use Rattle.pools.specs.Periods.{sooner}
 use Rattle.pools.specs.Laws.Earlier.{sooner_laws}
-use Rattle.pools.proofs.Walks.{walked}
+use Rattle.pools.proofs.Walks.{nth_some, walked_more, walked_all, after-nth}
 use Rattle.pools.proofs.walk.list_members.Goals as goal
 
-weaker : {X Y : Type 0} (r : Result X Y) {P Q : X → Type 0} → IfOk r P → ((x : X) → P x → Q x) → IfOk r Q
-weaker r {P} {Q} e h = IfOk-weaker r P Q h e
+pub loop-at-smaller : goal.loop-at-smaller
+loop-at-smaller g c =
+    let q = nth_some (g.P.Pool.members c.args.pool.now) (vec_len c.loop-at.list) c.in-Some.p (sym c.in-Some.is ∙ c.loop-at.invariant.1) in
+    omega (arith, q.0, c.in_ok-push.ensures.len)
+
+pub loop-at-preserved : goal.loop-at-preserved
+loop-at-preserved g c =
+    let ms = g.P.Pool.members c.args.pool.now in
+    let n = vec_len c.loop-at.list in
+    let here : Some c.in-Some.p ≡ slice_get ms n = sym c.in-Some.is ∙ c.loop-at.invariant.1 in
+    let long : vec_len c.push.new.self ≡ n + 1 = c.in_ok-push.ensures.len in (
+      walked_more ms (vec_items c.loop-at.list) (vec_items c.push.new.self) n c.in-Some.p c.loop-at.invariant.0 here c.in_ok-push.ensures.items ∙ ap (λ (k : ℕ). take k ms) (sym long),
+      c.next-at.ensures ∙ (after-nth sooner sooner_laws ms n c.in-Some.p (g.P.Pool.sound c.args.pool.now).ascending here ∙ ap (slice_get ms) (sym long)),
+    )
 
 pub returns : goal.returns
-returns g c =
-    let members = g.P.Pool.members c.args.pool.now in
-    weaker c.collect.result c.collect.ensures.runs (λ list h.
-    let p = h tt in
-    let taken = c.take.ensures.runs p.0 p.0.seen p.1 in
-    let q = taken.1.0 in
-    let same = taken.1.2.0 in
-    p.3.0 ∙ (sym same.1
-    ∙ walked sooner sooner_laws members (g.met.P.Pool.sound c.args.pool.now).ascending _ (λ x o r k. search (rules, tests)) q c.first.result c.first.ensures (c.successors.ensures.runs q q.seen taken.1.1)
-    (omega (arith, taken.0, same.0, c.count.ensures)) (λ l. taken.1.2.1 p.2 (omega (arith, l, same.0, c.count.ensures)))))
+returns g c = walked_all (g.P.Pool.members c.args.pool.now) (vec_items c.loop-at.list) (vec_len c.loop-at.list) c.loop-at.invariant.0 (sym c.in_default.is ∙ c.loop-at.invariant.1)
