@@ -1,5 +1,9 @@
 -- What the fields of a closed table say, in the words of rules, rings and groups.
-use Rattle.std.proofs.Common.{ℕ, Decides, sym, ap, ◌∙◌}
+use Rattle.std.proofs.Common.{◌≡◌, ℕ, List, length, Decides, sym, ap, ◌∙◌, subst}
+use Rattle.terms.specs.declared.numbers.RuleNo.{RuleNo}
+use Rattle.rules.specs.declared.group.Group.{Group}
+use Rattle.rules.specs.declared.rule.Rule.{Rule}
+use Rattle.rules.specs.Keys.{PartsTo}
 use Rattle.rules.specs.declared.table.Table.{Table}
 use Rattle.rules.specs.Words.{Leads, WorkingOrder}
 use Rattle.rules.specs.Reach.{leads_to}
@@ -34,3 +38,8 @@ table_closed t =
       working = table_works t;
       grouping = grouping (rules_in t) (leads_to (rules_in t)) (table_tells t) (groups_in t) (order_in t) t.parted (table_works t);
     }
+
+-- the groups of an order, told by what leads to what in rules that are the same and of a list that is the order
+pub parts_of : (rs ss : List Rule) (ps os : List RuleNo) (gs : List Group) → rs ≡ ss → ps ≡ os → length os ≡ length ss → PartsTo (leads_to rs) ps (length ps) gs (length ps) → PartsTo (leads_to ss) os (length ss) gs (length ss)
+parts_of rs ss ps os gs e f l p =
+    subst (λ (n : ℕ). PartsTo (leads_to ss) os n gs n) l (subst (λ (qs : List RuleNo). PartsTo (leads_to ss) qs (length qs) gs (length qs)) f (subst (λ (ts : List Rule). PartsTo (leads_to ts) ps (length ps) gs (length ps)) e p))

@@ -1,6 +1,6 @@
 -- What leads to what, and the rounds that find it.
-use Rattle.std.proofs.Common.{◌≡◌, ℕ, zero, suc, ◌<◌, ◌≤◌, Bool, true, false, eqb, ltb, ◌⊎◌, List, [], ◌∷◌, ◌++◌, length, Decides, ap, subst, inl, inr, arith}
-use Rattle.std.proofs.lemmas.Bool.{and_parts, and_from, or_cases, or_left, or_right, ltb-true, lt-ltb, eqb-true, eq-eqb, cases_Bool, cases_eq}
+use Rattle.std.proofs.Common.{◌≡◌, ℕ, zero, suc, ◌<◌, ◌≤◌, Bool, true, false, ◌&&◌, eqb, ltb, ◌⊎◌, List, [], ◌∷◌, ◌++◌, length, Decides, sym, refl, ap, ◌∙◌, subst, inl, inr, arith}
+use Rattle.std.proofs.lemmas.Bool.{and_parts, and_from, and_right, or_cases, or_left, or_right, ltb-true, lt-ltb, eqb-true, eq-eqb, cases_Bool, cases_lt, cases_eq}
 use Rattle.terms.specs.declared.numbers.LabelNo.{LabelNo}
 use Rattle.rules.specs.declared.rule.Rule.{Rule}
 use Rattle.rules.specs.Reach.{via, leads_to}
@@ -112,4 +112,10 @@ pub read_by_past : (rules : List Rule) (i j : ℕ) → (length rules ≤ i) ⊎ 
 read_by_past rules i j o = elim (cases_Bool (read_by rules i j)) [
   | inl e ↦ let r = read_by_true rules i j e in let l = r.from_table in let m = r.to_table in elim o [ inl p ↦ absurd (omega arith) | inr p ↦ absurd (omega arith) ]
   | inr e ↦ e
+]
+
+pub all_rows : (rules : List Rule) (i j n : ℕ) → length rules ≤ n → (ltb i n && read_by rules i j) ≡ read_by rules i j
+all_rows rules i j n g = elim (cases_lt i n) [
+  | inl h ↦ rw (lt-ltb i n h) refl
+  | inr h ↦ let p = read_by_past rules i j (inl (omega arith)) in and_right _ _ p ∙ sym p
 ]

@@ -1,10 +1,7 @@
--- Rows of sets.
-use Rattle.std.proofs.Common.{◌≡◌, ℕ, zero, suc, ◌+◌, ◌<◌, ◌≤◌, Bool, false, List, length, sym, ap, ◌∙◌, subst, inl, inr, arith}
-use Rattle.std.specs.Array.{IsFromFnResultFrom, IsFromFnResult, MapsFrom, IsMapOf}
-use Rattle.std.specs.Fn.{Called}
-use Rattle.std.proofs.lemmas.Bool.{cases_lt, cases_eq}
-use Rattle.std.proofs.lemmas.List.{get_or_past}
-use denote.Param.Members.{Mut}
+-- Rows of sets, one of which is written.
+use Rattle.std.proofs.Common.{◌≡◌, ℕ, ◌+◌, ◌<◌, ◌≤◌, Bool, true, false, ltb, List, length, set, replicate, sym, ap, ◌∙◌, inl, inr, arith}
+use Rattle.std.proofs.lemmas.List.{get_or-set_same, get_or-set_other, get_or-replicate, get_or_past, length-replicate}
+use Rattle.std.proofs.lemmas.Bool.{lt-ltb, le-ltb, cases_lt, cases_eq}
 use Rattle.rules.specs.declared.rule_set.RuleSet.{RuleSet}
 use Rattle.rules.specs.RuleSets.{holds, marked}
 use Rattle.rules.proofs.Marks.{holds_none}
@@ -15,39 +12,24 @@ empty = record { 0 = 0 }
 pub marked_past : (rows : List RuleSet) (i j : ℕ) → length rows ≤ i → marked rows i j ≡ false
 marked_past rows i j h = ap (λ (x : RuleSet). holds x j) (get_or_past rows i empty h) ∙ holds_none j
 
--- rows that a closure made of their indexes, where t says what each call gives
-module _ {F : Type 0} {g : Mut F (ℕ × Unit {0}) RuleSet} (f : F) (rows : List RuleSet) (t : ℕ → ℕ → Bool)
-    (each : (i : ℕ) (row : RuleSet) (q : F) → Called g f (i, tt) row q → (q ≡ f) × ((j : ℕ) → holds row j ≡ t i j)) where
-  made_from : (a n : ℕ) → IsFromFnResultFrom g f rows a n → (i j : ℕ) → a ≤ i → i < a + n → marked rows i j ≡ t i j
-  made_from a zero made i j low high = absurd (omega arith)
-  made_from a (suc n) made i j low high =
-      let h = each a made.1 made.0 made.3 in
-      elim (cases_eq i a) [
-        | inl e ↦ ap (λ (k : ℕ). marked rows k j) e ∙ (ap (λ (x : RuleSet). holds x j) (made.2.1 empty) ∙ (h.1 j ∙ ap (λ (k : ℕ). t k j) (sym e)))
-        | inr ne ↦ made_from (a + 1) n (subst (λ (q : F). IsFromFnResultFrom g q rows (a + 1) n) h.0 made.4) i j (omega arith) (omega arith)
-      ]
+pub ltb_here : (i : ℕ) → ltb i (i + 1) ≡ true
+ltb_here i = lt-ltb i (i + 1) (omega arith)
 
-  pub rows_made : (n : ℕ) → IsFromFnResult g f rows n → ((i j : ℕ) → n ≤ i → t i j ≡ false) → (i j : ℕ) → marked rows i j ≡ t i j
-  rows_made n made past i j = elim (cases_lt i n) [
-    | inl l ↦ made_from 0 n made.each i j (omega arith) (omega arith)
-    | inr h ↦ marked_past rows i j (omega (arith, made.long)) ∙ sym (past i j h)
-  ]
+pub ltb_there : (m i : ℕ) → (m ≡ i → ⊥) → ltb m i ≡ ltb m (i + 1)
+ltb_there m i ne = elim (cases_lt m i) [
+  | inl h ↦ lt-ltb m i h ∙ sym (lt-ltb m (i + 1) (omega arith))
+  | inr h ↦ le-ltb m i h ∙ sym (le-ltb m (i + 1) (omega arith))
+]
 
--- rows that a closure made of other rows, where t says what each call gives
-module _ {F : Type 0} {g : Mut F (RuleSet × Unit {0}) RuleSet} (f : F) (rows wider : List RuleSet) (t : (ℕ → Bool) → ℕ → Bool)
-    (each : (row wide : RuleSet) (q : F) → Called g f (row, tt) wide q → (q ≡ f) × ((j : ℕ) → holds wide j ≡ t (holds row) j)) where
-  mapped_from : (a n : ℕ) → MapsFrom g f rows wider a n → (i j : ℕ) → a ≤ i → i < a + n → marked wider i j ≡ t (marked rows i) j
-  mapped_from a zero made i j low high = absurd (omega arith)
-  mapped_from a (suc n) made i j low high =
-      let h = each made.1 made.2 made.0 made.5 in
-      elim (cases_eq i a) [
-        | inl e ↦ ap (λ (k : ℕ). marked wider k j) e ∙ (ap (λ (x : RuleSet). holds x j) (made.4.1 empty)
-            ∙ (h.1 j ∙ (ap (λ (x : RuleSet). t (holds x) j) (sym (made.3.1 empty)) ∙ ap (λ (k : ℕ). t (marked rows k) j) (sym e))))
-        | inr ne ↦ mapped_from (a + 1) n (subst (λ (q : F). MapsFrom g q rows wider (a + 1) n) h.0 made.6) i j (omega arith) (omega arith)
-      ]
+pub marked_none : (x : RuleSet) → ((j : ℕ) → holds x j ≡ false) → (n k m : ℕ) → marked (replicate n x) k m ≡ false
+marked_none x h n k m = elim (cases_lt k n) [
+  | inl l ↦ ap (λ (y : RuleSet). holds y m) (get_or-replicate n k x (record { 0 = 0 }) l) ∙ h m
+  | inr g ↦ marked_past (replicate n x) k m (rw (length-replicate n x) g)
+]
 
-  pub rows_mapped : (n : ℕ) → length rows ≡ n → IsMapOf g f rows wider n → ((j : ℕ) → t (holds empty) j ≡ false) → (i j : ℕ) → marked wider i j ≡ t (marked rows i) j
-  rows_mapped n long made none i j = elim (cases_lt i n) [
-    | inl l ↦ mapped_from 0 n made.each i j (omega arith) (omega arith)
-    | inr h ↦ marked_past wider i j (omega (arith, made.long)) ∙ (sym (none j) ∙ ap (λ (x : RuleSet). t (holds x) j) (sym (get_or_past rows i empty (omega (arith, long)))))
-  ]
+pub marked-set : (rows : List RuleSet) (x : RuleSet) (i : ℕ) (t u : ℕ → ℕ → Bool) → i < length rows → ((m n : ℕ) → marked rows m n ≡ t m n) → ((n : ℕ) → holds x n ≡ u i n)
+    → ((m n : ℕ) → (m ≡ i → ⊥) → t m n ≡ u m n) → (m n : ℕ) → marked (set rows i x) m n ≡ u m n
+marked-set rows x i t u l old new other m n = elim (cases_eq m i) [
+  | inl e ↦ ap (λ (k : ℕ). marked (set rows i x) k n) e ∙ (ap (λ (y : RuleSet). holds y n) (get_or-set_same rows i x (record { 0 = 0 }) l) ∙ (new n ∙ ap (λ (k : ℕ). u k n) (sym e)))
+  | inr ne ↦ ap (λ (y : RuleSet). holds y n) (get_or-set_other rows i m x (record { 0 = 0 }) ne) ∙ (old m n ∙ other m n ne)
+]

@@ -7,7 +7,6 @@ ghost use Rattle.rules.specs.Words.{Reads, ReadBy, read_by};
 use crate::rule::{MOST_RULES, Rule};
 use crate::rule_list::RuleList;
 use crate::rule_set::RuleSet;
-use std::array;
 use terms::LabelNo;
 
 // What leads to what in a table's rules: the row of a rule has the rules that it leads to. A rule leads to another if some chain of rules
@@ -56,7 +55,12 @@ impl<'a> Reach<'a> {
 fn first_steps(list: &RuleList) -> [RuleSet; MOST_RULES]
     ensures { (i j : ℕ) → marked result i j ≡ read_by list.now.rules.items i j }
 {
-    array::from_fn(|i| readers(list, i))
+    let mut rows = [RuleSet::none(); MOST_RULES];
+    // An index loop: `array::from_fn` would ask for each of the 48 rows, and most tables have few rules.
+    for i in 0..list.rules.len() {
+        rows[i] = readers(list, i);
+    }
+    rows
 }
 
 // The rules that read the label of the rule `i`, if there is such a rule.
@@ -82,12 +86,16 @@ fn reads(rule: &Rule, label: LabelNo) -> bool
 }
 
 // What is reached with the rule `k` as one more stop on the way.
-fn through(rows: [RuleSet; MOST_RULES], k: usize) -> [RuleSet; MOST_RULES]
+fn through(mut rows: [RuleSet; MOST_RULES], k: usize) -> [RuleSet; MOST_RULES]
     requires { k < 48 }
     ensures { (i j : ℕ) → marked result i j ≡ (marked rows i j || (marked rows i k && marked rows k j)) }
 {
     let by = rows[k];
-    rows.map(|row| widened(row, k, by))
+    // A `for` over the rows where they lie: `map` of the array would move each into an `Option` and out of it, once a rule.
+    for row in rows.iter_mut() {
+        *row = widened(*row, k, by);
+    }
+    rows
 }
 
 // A row and, if it has the rule `k`, that rule's row.

@@ -1,13 +1,17 @@
-use Rattle.std.proofs.Common.{◌≡◌, List, vec_items, sym, refl, ◌∙◌, subst}
+use Rattle.std.proofs.Common.{◌≡◌, List, length, vec_items, sym, refl, ◌∙◌, subst, rules}
+use Rattle.std.proofs.lemmas.Grind.{common_steps}
 use Rattle.std.proofs.lemmas.Result.{err_from_is_err_and}
 use Rattle.rules.specs.declared.draft.Draft.{Draft}
 use Rattle.rules.specs.declared.rule.Rule.{Rule}
 use Rattle.rules.specs.Words.{Free, LowestBarred}
+use Rattle.rules.specs.Keys.{InOrder}
+use Rattle.rules.specs.Reach.{leads_to}
 use Rattle.rules.specs.Texts.{texts}
 use Rattle.rules.specs.Written.{rules_of}
 use Rattle.rules.specs.Drafts.{drafted}
 use Rattle.rules.proofs.Keeping.{kept_rules}
 use Rattle.rules.proofs.Adding.{list_kept}
+use Rattle.rules.proofs.Closings.{parts_of}
 use Rattle.rules.proofs.draft.Draft.close.Goals as goal
 
 -- what is read of a draft's rules is what the draft says
@@ -29,3 +33,13 @@ returns-in_err-groups c =
 
 pub returns : goal.returns
 returns c = (refl, subst (λ (rs : List Rule). Free rs) (c.of-reach.ensures ∙ drafted_rules c.args.self) c.in_default.ensures)
+
+pub invariant_of-result : goal.invariant_of-result
+invariant_of-result c =
+    let e = c.of-reach.ensures in
+    let o = subst (λ (rs : List Rule). InOrder (leads_to rs) (length rs) (vec_items c.in_ok-order.order)) e c.in_ok-order.ensures in
+    record {
+      free = subst (λ (rs : List Rule). Free rs) e c.in_default.ensures;
+      ordered = o;
+      parted = parts_of c.of-reach.result.rules.now (vec_items c.args.self.list.rules) _ (vec_items c.in_ok-order.order) (vec_items c.in_ok-groups.groups) e (search (rules, common_steps)) o.long c.in_ok-groups.ensures;
+    }
