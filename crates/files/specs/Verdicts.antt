@@ -1,6 +1,8 @@
 -- The text that tells of a rule file: the numbers of what was accepted, or the refusal.
 use Rattle.std.specs.Prelude.{◌≡◌, ⊤, ℕ, List, [], ◌∷◌, ◌++◌, length, Some, Ok, Err, Result, String, string_bytes, codes, decimal}
 use Rattle.std.specs.declared.alloc.Global.{Global}
+use Rattle.std.specs.declared.io.ErrorKind.{ErrorKind}
+use Rattle.std.specs.declared.io.ErrorKind.TheVariants as kind
 use Rattle.terms.specs.Refusals.{number_of}
 use Rattle.rules.specs.declared.table.Table.{Table}
 use Rattle.rules.specs.Tables.{names_in, rules_in, groups_in, Closed}
@@ -42,3 +44,13 @@ abbrev pub VerdictOf : List ℕ → Result (String Global) CheckFault → Type 0
 VerdictOf bytes (Ok text) = AcceptedAs bytes (string_bytes text)
 VerdictOf bytes (Err (Refused text)) = RefusedAs bytes (string_bytes text)
 VerdictOf bytes (Err OutOfMemory) = ⊤
+
+-- What a fault shows of itself: the text to write of a refused file.
+abbrev pub fault_text : CheckFault → List ℕ
+fault_text (Refused text) = string_bytes text
+fault_text OutOfMemory = codes "not enough memory"
+
+-- The kind of the input error that a fault goes into.
+abbrev pub fault_kind : CheckFault → ErrorKind
+fault_kind (Refused text) = kind.InvalidData
+fault_kind OutOfMemory = kind.OutOfMemory

@@ -45,6 +45,17 @@ impl Worded for RuleColumn {
     }
 }
 
+impl RuleColumn {
+    ghost use Rattle.files.specs.RuleFiles.{column_named};
+
+    // The column that a field of the names line names, if it names one.
+    fn named(field: Part<'_>) -> Option<RuleColumn>
+        ensures { result ≡ column_named field.entry.bytes.now }
+    {
+        RuleColumn::from_word(field.bytes)
+    }
+}
+
 // The columns in the order of a names line, from the left.
 #[derive(Clone, Copy)]
 pub(crate) struct ColumnOrder {
@@ -87,10 +98,10 @@ impl ColumnOrder {
     {
         let [one, two, three, four] = Cells::read(line).ok()?.parts;
         ColumnOrder::of([
-            RuleColumn::from_word(one.bytes)?,
-            RuleColumn::from_word(two.bytes)?,
-            RuleColumn::from_word(three.bytes)?,
-            RuleColumn::from_word(four.bytes)?,
+            RuleColumn::named(one)?,
+            RuleColumn::named(two)?,
+            RuleColumn::named(three)?,
+            RuleColumn::named(four)?,
         ])
     }
 

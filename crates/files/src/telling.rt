@@ -1,16 +1,20 @@
-ghost use Rattle.std.specs.Prelude.{◌≡◌, IfOk, string_bytes};
-ghost use Rattle.files.specs.Verdicts.{counts_text, refusal_text, VerdictOf};
+ghost use Rattle.std.specs.Prelude.{◌≡◌, Some, IfOk, string_bytes};
+ghost use Rattle.std.specs.IoError.{error_kind};
+ghost use Rattle.files.specs.Verdicts.{counts_text, refusal_text, VerdictOf, fault_text, fault_kind};
 ghost use Rattle.files.specs.declared.telling.CheckFault.TheVariants.{OutOfMemory};
 
 use crate::fault::Report;
 use crate::rule_file::read_rules;
 use std::alloc::{AllocError, Global};
+use std::error::Error;
+use std::io::ErrorKind;
+use std::{fmt, io};
 
 // The number of a rule file among the files that a program reads. (No enum of files: `refusal_text` takes any number, as its callers may have others.)
 const RULE_FILE: u8 = 1;
 
 // Why a rule file has no numbers to write.
-#[derive(Drop)]
+#[derive(Drop, PartialEq, Eq, Debug)]
 pub enum CheckFault {
     // refused, with the text to write
     Refused(String),
@@ -23,6 +27,32 @@ impl From<AllocError> for CheckFault {
 
     fn from(_error: AllocError) -> CheckFault {
         CheckFault::OutOfMemory
+    }
+}
+
+// The text of a refusal as it is to be written, with its line ends.
+impl fmt::Display for CheckFault {
+    ghost output = { λ fault. Some (fault_text fault) };
+
+    fn fmt<W: fmt::Write>(&self, f: &mut fmt::Formatter<W>) -> fmt::Result {
+        match self {
+            CheckFault::Refused(text) => f.write_str(text.as_str()),
+            CheckFault::OutOfMemory => f.write_str("not enough memory"),
+        }
+    }
+}
+
+impl Error for CheckFault {}
+
+// So that `?` takes a fault to an `io::Result`. A refused file's error has its text for a message.
+impl From<CheckFault> for io::Error {
+    ghost from_gives = { λ fault error. error_kind error ≡ fault_kind fault };
+
+    fn from(fault: CheckFault) -> io::Error {
+        match fault {
+            CheckFault::Refused(text) => io::Error::new(ErrorKind::InvalidData, text.as_str()),
+            CheckFault::OutOfMemory => io::Error::from(ErrorKind::OutOfMemory),
+        }
     }
 }
 

@@ -10,4 +10,6 @@ mod refusals;
 #[cfg(test)]
 mod rings;
 #[cfg(test)]
+mod telling;
+#[cfg(test)]
 mod words;

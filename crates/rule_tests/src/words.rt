@@ -1,4 +1,4 @@
-// The words of docs/RULES.md and docs/FORMATS.md, found again, and those of docs/REFUSALS.md, as they are shown.
+// The words of docs/RULES.md and docs/FORMATS.md, found again, and those of docs/REFUSALS.md with their numbers, as they are shown.
 use files::RuleColumn;
 use rules::Relation;
 use std::fmt::Debug;
@@ -53,17 +53,36 @@ fn columns(rt: HostRuntime) {
     assert_eq!(rt; RuleColumn::all().len(), 4);
 }
 
-const REFUSALS: [(Refusal, &str); 5] = [
-    (Refusal::Headless, "headless"),
-    (Refusal::NoAct, "no act"),
-    (Refusal::NotStanding, "not standing"),
-    (Refusal::OffThePool, "off the pool"),
-    (Refusal::BadMeasure, "bad measure"),
+// Each refusal, with its number and its word.
+const REFUSALS: [(Refusal, u8, &str); 21] = [
+    (Refusal::Headless, 1, "headless"),
+    (Refusal::Ragged, 2, "ragged"),
+    (Refusal::Misspelt, 3, "misspelt"),
+    (Refusal::Unrelated, 4, "unrelated"),
+    (Refusal::Overfull, 5, "overfull"),
+    (Refusal::Ringed, 6, "ringed"),
+    (Refusal::Unended, 7, "unended"),
+    (Refusal::NoAct, 8, "no act"),
+    (Refusal::Undated, 9, "undated"),
+    (Refusal::Stranger, 10, "stranger"),
+    (Refusal::Noted, 11, "noted"),
+    (Refusal::NotStanding, 12, "not standing"),
+    (Refusal::LogFull, 13, "log full"),
+    (Refusal::Narrow, 14, "narrow"),
+    (Refusal::Crowded, 15, "crowded"),
+    (Refusal::Full, 16, "full"),
+    (Refusal::Unsettled, 17, "unsettled"),
+    (Refusal::Backwards, 18, "backwards"),
+    (Refusal::PageShort, 19, "page short"),
+    (Refusal::OffThePool, 20, "off the pool"),
+    (Refusal::BadMeasure, 21, "bad measure"),
 ];
 
 #[test]
 fn refusals(rt: HostRuntime) -> Result<(), Fail> {
-    for (refusal, word) in &REFUSALS {
+    for (refusal, number, word) in &REFUSALS {
+        assert_eq!(rt; refusal.number(), *number);
+        assert_eq!(rt; refusal.word(), *word);
         let shown = refusal.to_string(rt.alloc())?;
         assert_eq!(rt; shown.as_str(), *word);
     }

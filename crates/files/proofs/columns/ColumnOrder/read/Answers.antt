@@ -11,5 +11,5 @@ returns c =
     let cells = c.in_ok-one.field-0 in
     let fields = cut_fields c.args.line c.read.result c.read.ensures cells (sym c.in_ok-one.ensures.value) in
     c.of.ensures
-    ∙ sym (four_named c.args.line.bytes.now cells.parts _ _ _ _ _ (four_parts cells) fields (sym c.from_word.ensures.value ∙ c.in_ok-from_word.was)
-    (sym c.from_word-2.ensures.value ∙ c.in_ok-from_word-2.was) (sym c.from_word-3.ensures.value ∙ c.in_ok-from_word-3.was) (sym c.from_word-4.ensures.value ∙ c.in_ok-from_word-4.was))
+    ∙ sym (four_named c.args.line.bytes.now cells.parts _ _ _ _ _ (four_parts cells) fields (sym c.named.ensures ∙ c.in_ok-named.was)
+    (sym c.named-2.ensures ∙ c.in_ok-named-2.was) (sym c.named-3.ensures ∙ c.in_ok-named-3.was) (sym c.named-4.ensures ∙ c.in_ok-named-4.was))
