@@ -5,7 +5,7 @@ use std::process::Abort;
 use std::test::Fail;
 
 // A field, and the moment that is read.
-pub(crate) fn reads<P: Copy, K: Moment + Debug, F: Fn(P) -> K>(
+pub(crate) fn reads<P: Copy, K: Moment + PartialEq + Debug, F: Fn(P) -> K>(
     rt: &impl Abort,
     make: F,
     table: &[(&[u8], Option<P>)],
@@ -18,7 +18,7 @@ pub(crate) fn reads<P: Copy, K: Moment + Debug, F: Fn(P) -> K>(
 }
 
 // A moment, whether it is in range, and its text. A moment in range is read back.
-pub(crate) fn shows<P: Copy, K: Moment + Debug, F: Fn(P) -> K>(
+pub(crate) fn shows<P: Copy, K: Moment + PartialEq + Debug, F: Fn(P) -> K>(
     rt: &(impl Abort + AllocGlobal),
     make: F,
     table: &[(P, bool, &str)],
