@@ -6,4 +6,6 @@ mod days;
 #[cfg(test)]
 mod kinds;
 #[cfg(test)]
+mod own;
+#[cfg(test)]
 mod stamps;

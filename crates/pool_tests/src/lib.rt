@@ -11,3 +11,5 @@ mod lists;
 mod load;
 #[cfg(test)]
 mod rows;
+#[cfg(test)]
+mod walks;
