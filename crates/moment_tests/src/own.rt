@@ -20,6 +20,12 @@ impl Ordered for Countdown {
     }
 }
 
+// A row kept by a struct of its own, over any kind.
+#[derive(Drop)]
+struct Keep<'a, T> {
+    row: Row<'a, T>,
+}
+
 // The one moment of its kind.
 #[derive(Clone, Copy)]
 struct Once;
@@ -61,12 +67,14 @@ impl Moment for Once {
 #[test]
 fn counted_down(rt: HostRuntime) -> Result<(), Fail> {
     let mut slots = [Countdown(0); 3];
-    let mut row = Row::new(&mut slots);
+    let mut kept = Keep {
+        row: Row::new(&mut slots),
+    };
     for (n, new) in [(3, true), (5, true), (4, true), (5, false)] {
-        assert_eq!(rt; row.add(Countdown(n)), Ok(new));
+        assert_eq!(rt; kept.row.add(Countdown(n)), Ok(new));
     }
     for (i, n) in [5, 4, 3].iter().enumerate() {
-        assert!(rt; row.get(i).is_some_and(|kept| kept.0 == *n));
+        assert!(rt; kept.row.get(i).is_some_and(|x| x.0 == *n));
     }
     Ok(())
 }

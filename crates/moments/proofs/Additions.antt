@@ -2,7 +2,7 @@
 use Rattle.std.proofs.Common.{◌≡◌, ℕ, ◌+◌, ◌<◌, ◌≤◌, Bool, true, false, cond, ◌||◌, ltb, ◌⊎◌, List, [], ◌∷◌, length, Ok, Err, sym, refl, ap, ◌∙◌, subst, inl, inr, arith}
 use mathlib.Core.List.{Memᴰ}
 use Rattle.std.specs.List.{insert}
-use Rattle.std.proofs.lemmas.Bool.{cases_Bool, both_ways, cond_both, lt-ltb}
+use Rattle.std.proofs.lemmas.Bool.{cases_Bool, both_ways, cond_both, lt-ltb, le-ltb}
 use Rattle.terms.specs.declared.refusal.Refusal.TheVariants.{Full}
 use Rattle.moments.specs.Order.{StrictTotalOrder, Ascending, among, with, found}
 use Rattle.moments.specs.Rows.{Adds, added}
@@ -40,11 +40,6 @@ module _ {A : Type 0} (before : A → A → Bool) (laws : StrictTotalOrder befor
     ])
   ]
 
-  pub insert_ascends : (x : A) (xs : List A) (i : ℕ) → Ascending before xs → Err i ≡ found before x xs → Ascending before (insert xs i x)
-  insert_ascends x xs i a f =
-      let q = not_found before laws x xs i f in
-      subst (Ascending before) (with_new before laws x xs q.0 ∙ ap (λ (k : ℕ). insert xs k x) (sym q.1)) (with_ascends before laws x xs a)
-
   accepted : (x : A) (xs ys : List A) (slots : ℕ) (b : Bool) → Ascending before xs → Ok b ≡ cond (among before x xs) (Ok false) (cond (ltb (length xs) slots) (Ok true) (Err Full)) → ys ≡ added before slots xs x → ys ≡ with before x xs → Adds before slots xs x (Ok b) ys
   accepted x xs ys slots b a e f q = record {
     answer = e;
@@ -60,6 +55,18 @@ module _ {A : Type 0} (before : A → A → Bool) (laws : StrictTotalOrder befor
       let t = (there before laws x xs i f).0 in
       let w = e ∙ sym (with_there before laws x xs a t) in
       accepted x xs ys slots false a (rw t refl) (rw t w) w
+
+  pub add_full : (x : A) (xs ys : List A) (slots i : ℕ) → Ascending before xs → Err i ≡ found before x xs → slots ≤ length xs → ys ≡ xs → Adds before slots xs x (Err Full) ys
+  add_full x xs ys slots i a f l e =
+      let n = (not_found before laws x xs i f).0 in
+      record {
+        answer = rw (n, le-ltb (length xs) slots l) refl;
+        after = rw (n, le-ltb (length xs) slots l) e;
+        ascends = subst (Ascending before) (sym e) a;
+        only = λ h. absurd (both_ways false refl h);
+        all = λ h. absurd (both_ways false refl h);
+        same = λ _. e;
+      }
 
   pub add_new : (x : A) (xs ys : List A) (slots i : ℕ) → Ascending before xs → Err i ≡ found before x xs → length xs < slots → ys ≡ insert xs i x → Adds before slots xs x (Ok true) ys
   add_new x xs ys slots i a f l e =

@@ -1,24 +1,22 @@
 -- What a row keeps, and what adding to it answers and leaves.
-use Rattle.std.specs.Prelude.{◌≡◌, ℕ, Bool, true, false, cond, ◌||◌, ◌⊎◌, List, length, take, is_ok, Ok, Err, Result, nat_lt}
+use Rattle.std.specs.Prelude.{◌≡◌, ℕ, min, Bool, true, false, cond, ◌||◌, ◌⊎◌, List, length, take, is_ok, Ok, Err, Result, nat_lt}
 use mathlib.Core.List.{Memᴰ}
 use Rattle.terms.specs.declared.refusal.Refusal.{Refusal}
 use Rattle.terms.specs.declared.refusal.Refusal.TheVariants.{Full}
 use Rattle.moments.specs.declared.row.Row.{Row}
 use Rattle.moments.specs.Order.{Ascending, among, with}
 
--- A row of A; what the bound on A brings stands after it.
-module _ {A : Type 0} {ordered : _} where
-  -- how many slots it has
-  abbrev pub slots_of : Row A ordered → ℕ
-  slots_of r = length r.slots.now
+-- how many slots it has
+abbrev pub slots_of : {A : Type 0} → Row A → ℕ
+slots_of r = length r.slots.now
 
-  -- how many it keeps
-  abbrev pub count : Row A ordered → ℕ
-  count r = r.len
+-- how many it keeps
+abbrev pub count : {A : Type 0} → Row A → ℕ
+count r = min r.len (slots_of r)
 
-  -- what stands in the first slots, up to the count
-  abbrev pub kept : Row A ordered → List A
-  kept r = take (count r) r.slots.now
+-- what stands in the first slots, up to the count
+abbrev pub kept : {A : Type 0} → Row A → List A
+kept r = take (count r) r.slots.now
 
 -- whether it was new; a new one needs a slot
 abbrev pub add_answer : {A : Type 0} → (A → A → Bool) → ℕ → List A → A → Result Bool Refusal

@@ -6,13 +6,13 @@ use crate::ordered::Ordered;
 use terms::Refusal;
 
 // Things of an ordered kind, each before the next, in the first of the slots that were lent: a row takes no memory of its own. It is empty
-// when it is made, and only `add` and `clear` change it. The slots past its length are open: what stands there is nobody's.
+// when it is made, and only `add` and `clear` change it, so its things always ascend; each contract says what follows from that and that it
+// stays so. (The type does not say it: it would ask for the order wherever a row is named.) The slots past its length are open: what stands
+// there is nobody's.
 #[derive(Drop)]
-pub struct Row<'a, T: Ordered> {
+pub struct Row<'a, T> {
     slots: &'a mut [T],
     len: usize,
-    pub ghost fits: { len ≤ length slots.now },
-    pub ghost ascends: { Ascending T.before (take len slots.now) },
 }
 
 impl<'a, T: Ordered> Row<'a, T> {
@@ -26,12 +26,12 @@ impl<'a, T: Ordered> Row<'a, T> {
         Row { slots, len: 0 }
     }
 
-    // How many it keeps.
+    // How many it keeps. The field never passes the slots, but nothing in the type says so; the smaller of both needs no such fact.
     pub fn len(&self) -> usize
         ensures value { result ≡ count self.now }
         ensures kept { result ≡ length (kept self.now) }
     {
-        self.kept().len()
+        self.len.min(self.slot_count())
     }
 
     // How many slots it has.
@@ -53,7 +53,7 @@ impl<'a, T: Ordered> Row<'a, T> {
     fn kept(&self) -> &[T]
         ensures { result.now ≡ kept self.now }
     {
-        &self.slots[..self.len]
+        &self.slots[..self.len()]
     }
 
     // The thing at an index, from 0.
@@ -66,7 +66,7 @@ impl<'a, T: Ordered> Row<'a, T> {
     // How many of the kept come before `x`.
     fn rank(&self, x: T) -> usize
         ensures within { result ≤ count self.now }
-        ensures place { result ≡ rank T.before x (kept self.now) }
+        ensures place { Ascending T.before (kept self.now) → result ≡ rank T.before x (kept self.now) }
     {
         self.kept().partition_point(|y| y.precedes(&x))
     }
@@ -74,7 +74,7 @@ impl<'a, T: Ordered> Row<'a, T> {
     // The index of `x` if it is kept, else the index where it belongs.
     pub fn find(&self, x: T) -> Result<usize, usize>
         ensures within { elim result [ Ok i ↦ i < count self.now | Err i ↦ i ≤ count self.now ] }
-        ensures place { result ≡ found T.before x (kept self.now) }
+        ensures place { Ascending T.before (kept self.now) → result ≡ found T.before x (kept self.now) }
     {
         let at = self.rank(x);
         if let Some(y) = self.kept().get(at)
@@ -89,19 +89,19 @@ impl<'a, T: Ordered> Row<'a, T> {
     fn insert(&mut self, at: usize, x: T)
         requires room { count self.old < slots_of self.old }
         requires within { at ≤ count self.old }
-        requires place { Err at ≡ found T.before x (kept self.old) }
         ensures room { slots_of self.new ≡ slots_of self.old }
         ensures kept { kept self.new ≡ insert (kept self.old) at x }
     {
-        self.slots[self.len] = x;
-        self.slots[at..=self.len].rotate_right(1);
-        self.len += 1;
+        let count = self.len();
+        self.slots[count] = x;
+        self.slots[at..=count].rotate_right(1);
+        self.len = count + 1;
     }
 
     // Keeps `x`, and says whether it is new. A new one without a slot is refused as full, and the row keeps what it kept.
     pub fn add(&mut self, x: T) -> Result<bool, Refusal>
         ensures room { slots_of self.new ≡ slots_of self.old }
-        ensures answer { Adds T.before (slots_of self.old) (kept self.old) x result (kept self.new) }
+        ensures answer { Ascending T.before (kept self.old) → Adds T.before (slots_of self.old) (kept self.old) x result (kept self.new) }
     {
         let Err(at) = self.find(x) else {
             return Ok(false);

@@ -1,4 +1,6 @@
 // A walk asks a pool for its first and its next, and not for its count.
+ghost use Rattle.std.specs.Prelude.{◌≡◌};
+
 use crate::asking::period;
 use pools::{ListPool, Period, Pool, Size, list_members};
 use std::cell::Cell;
@@ -49,6 +51,13 @@ impl<P: Pool> Pool for Asked<P> {
     }
 }
 
+// How many members there are. Its clause names what holds of every pool, as a clause may.
+fn many<P: Pool>(pool: &P) -> usize
+    ensures { P.Pool.sound pool.now ≡ P.Pool.sound pool.now }
+{
+    pool.count()
+}
+
 #[test]
 fn no_count(rt: HostRuntime) -> Result<(), Fail> {
     let heap = rt.alloc();
@@ -64,5 +73,6 @@ fn no_count(rt: HostRuntime) -> Result<(), Fail> {
     let list = list_members(heap, &pool)?;
     assert_eq!(rt; list.len(), 3);
     assert_eq!(rt; pool.counts.get(), 0);
+    assert_eq!(rt; many(&pool), 3);
     Ok(())
 }

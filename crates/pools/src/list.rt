@@ -19,6 +19,7 @@ const MOST_PERIODS: usize = 4096;
 #[derive(Drop)]
 pub struct ListPool<'a> {
     row: Row<'a, Period<Place>>,
+    ghost sorted: { Ascending (kept row) },
     ghost few: { length (kept row) ≤ min 4096 (slots_of row) },
     ghost inside: { all_in_bounds 32 256 (kept row) ≡ true },
 }
@@ -46,7 +47,7 @@ impl<'a> Pool for ListPool<'a> {
 
     ghost sized = { λ s. list_size (slots_of s.row) };
 
-    ghost sound = { λ s. record { ascending = s.row.ascends; bounded = s.few; inside = s.inside } };
+    ghost sound = { λ s. record { ascending = s.sorted; bounded = s.few; inside = s.inside } };
 
     fn size(&self) -> Size {
         Size {

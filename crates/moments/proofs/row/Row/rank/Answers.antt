@@ -6,6 +6,6 @@ use Rattle.moments.proofs.Searches.{rank_searched}
 use Rattle.moments.proofs.row.Row.rank.Goals as goal
 
 pub returns-clause-place : goal.returns-clause-place
-returns-clause-place g c =
-    rank_searched g.T.Ordered.before g.met.T.Ordered.total c.args.x (kept c.args.self.now) _ c.partition_point.result c.args.self.now.ascends (search (rules, common_steps)) c.partition_point.ensures.bound
+returns-clause-place g c = λ a.
+    rank_searched g.T.Ordered.before g.met.T.Ordered.total c.args.x (kept c.args.self.now) _ c.partition_point.result a (search (rules, common_steps)) c.partition_point.ensures.bound
     (λ s. IsPartitionPoint-from_clause (λ y. g.T.Ordered.before y c.args.x) _ c.partition_point.result c.partition_point.ensures.partitioned s (search rules))
